@@ -1,0 +1,177 @@
+-- Bits and the numbers that they spell.
+use mathlib.Core.Path.{_≡_, refl, sym, ap, _∙_}
+use mathlib.Core.List.{List, [], _∷_, _++_, append-assoc}
+use Prim.Native.Nat.{ℕ, zero, suc, _+_, _*_, _/_, _%_, _^_, _≤_, _<_}
+use native.Mathlib.Nat.{not-suc-le-zero, le-of-suc-le-suc, mod-eq-of-lt, mod-one, mul-add-div-right, mul-add-mod-self-right, zero-add, suc-add, add-comm, zero-mul, pow-suc, lt-of-lt-of-le}
+use native.Mathlib.Numerals.{one-add}
+use native.Mathlib.Omega.{arith}
+use lib.ListN.{length, take, drop, getD, replicate, length-append, length-take, length-drop, take-append-drop}
+use lib.Seq.{take-at, drop-at, length-take-le, take-add, drop-drop}
+use lib.Pow.{pow-pos, pow-add, pow-mono, mod-pow-add, high, low, split, shr-shr}
+use lib.Arith.{digits-lt}
+use Rattle.codes.specs.Bits.{bits, number, sum, fixed, bytesOf, bytesFor, padded}
+
+-- every element is 0 or 1
+abbrev pub Bits : List ℕ → Type 0
+Bits [] = Unit {0}
+Bits (b ∷ bs) = (b < 2) × Bits bs
+
+pub bits-append : (xs ys : List ℕ) → Bits xs → Bits ys → Bits (xs ++ ys)
+bits-append [] ys h k = k
+bits-append (x ∷ xs) ys h k = (h .0, bits-append xs ys (h .1) k)
+
+pub bits-take : (n : ℕ) (xs : List ℕ) → Bits xs → Bits (take n xs)
+bits-take zero xs h = tt
+bits-take (suc n) [] h = tt
+bits-take (suc n) (x ∷ xs) h = (h .0, bits-take n xs (h .1))
+
+pub bits-drop : (n : ℕ) (xs : List ℕ) → Bits xs → Bits (drop n xs)
+bits-drop zero xs h = h
+bits-drop (suc n) [] h = tt
+bits-drop (suc n) (x ∷ xs) h = bits-drop n xs (h .1)
+
+pub bits-bits : (w x : ℕ) → Bits (bits w x)
+unfolding bits
+bits-bits zero x = tt
+bits-bits (suc w) x = (omega arith, bits-bits w x)
+
+pub bits-fixed : (w : ℕ) (vs : List ℕ) → Bits (fixed w vs)
+unfolding fixed
+bits-fixed w [] = tt
+bits-fixed w (v ∷ vs) = bits-append (bits w v) (fixed w vs) (bits-bits w v) (bits-fixed w vs)
+
+-- ---- lengths
+
+pub length-bits : (w x : ℕ) → length (bits w x) ≡ w
+unfolding bits
+length-bits zero x = refl
+length-bits (suc w) x = ap suc (length-bits w x)
+
+pub length-fixed : (w : ℕ) (vs : List ℕ) → length (fixed w vs) ≡ length vs * w
+unfolding fixed
+length-fixed w [] = sym (zero-mul w)
+length-fixed w (v ∷ vs) = simp (length-append, length-bits, length-fixed w vs) (omega arith)
+
+-- ---- what bits spell
+
+pub number-bits : (w x : ℕ) → number (bits w x) ≡ x % 2 ^ w
+unfolding number bits
+number-bits zero x = sym (mod-one x)
+number-bits (suc w) x = simp (length-bits w x, number-bits w x) (sym (rw one-add at (mod-pow-add x 1 w)))
+
+pub number-append : (xs ys : List ℕ) → number (xs ++ ys) ≡ number xs * 2 ^ length ys + number ys
+unfolding number
+number-append [] ys = omega arith
+number-append (x ∷ xs) ys = simp (number-append xs ys, length-append xs ys, pow-add) (omega arith)
+
+pub number-lt : (bs : List ℕ) → Bits bs → number bs < 2 ^ length bs
+unfolding number
+number-lt [] h = omega arith
+number-lt (b ∷ bs) h = rw (← (one-add (length bs)), pow-add) (digits-lt {c = 2 ^ length bs} (h .0) (number-lt bs (h .1)))
+
+-- bits w looks only at the w lowest bits
+pub bits-low : (w a x : ℕ) → bits w (a * 2 ^ w + x) ≡ bits w x
+unfolding bits
+bits-low zero a x = refl
+bits-low (suc w) a x =
+    let e : a * 2 ^ suc w + x ≡ a * 2 * 2 ^ w + x = rw pow-suc (omega arith) in
+    rw (e, mul-add-div-right (pow-pos w) (a * 2) x, mul-add-mod-self-right a 2 (x / 2 ^ w), bits-low w (a * 2) x)
+
+pub bits-number : (bs : List ℕ) → Bits bs → bits (length bs) (number bs) ≡ bs
+unfolding bits number
+bits-number [] h = refl
+bits-number (b ∷ bs) h =
+    rw (high b (length bs) (number-lt bs (h .1)), mod-eq-of-lt (h .0), bits-low (length bs) b (number bs), bits-number bs (h .1))
+
+-- ---- fixed codes
+
+pub fixed-append : (w : ℕ) (xs ys : List ℕ) → fixed w (xs ++ ys) ≡ fixed w xs ++ fixed w ys
+unfolding fixed
+fixed-append w [] ys = refl
+fixed-append w (x ∷ xs) ys = rw (append-assoc (bits w x) (fixed w xs) (fixed w ys), fixed-append w xs ys)
+
+-- value j of a fixed code
+pub fixed-at : (w : ℕ) (vs : List ℕ) (j : ℕ) (pad : List ℕ) → j < length vs → take w (drop (j * w) (fixed w vs ++ pad)) ≡ bits w (getD vs j 0)
+unfolding fixed
+fixed-at w [] j pad h = absurd (not-suc-le-zero h)
+fixed-at w (v ∷ vs) zero pad h =
+    rw (zero-mul w, append-assoc (bits w v) (fixed w vs) pad, take-at (bits w v) (fixed w vs ++ pad) w (length-bits w v))
+fixed-at w (v ∷ vs) (suc j) pad h =
+    let e : suc j * w ≡ w + j * w = omega arith in
+    rw (e, append-assoc (bits w v) (fixed w vs) pad, ← (drop-drop (j * w) w (bits w v ++ (fixed w vs ++ pad))), drop-at (bits w v) (fixed w vs ++ pad) w (length-bits w v), fixed-at w vs j pad (le-of-suc-le-suc h))
+
+-- the fixed law
+pub fixed-fetch : (w : ℕ) (vs : List ℕ) (j : ℕ) (pad : List ℕ) → j < length vs → getD vs j 0 < 2 ^ w
+    → number (take w (drop (j * w) (fixed w vs ++ pad))) ≡ getD vs j 0
+fixed-fetch w vs j pad h k = rw (fixed-at w vs j pad h, number-bits w (getD vs j 0), mod-eq-of-lt k)
+
+-- ---- the bits of a number, in two parts
+
+pub bits-split : (m h x : ℕ) → bits (m + h) x ≡ bits m (x / 2 ^ h) ++ bits h x
+unfolding bits
+bits-split zero h x = ap (λ (k : ℕ). bits k x) (zero-add h)
+bits-split (suc m) h x =
+    let e : x / 2 ^ h / 2 ^ m ≡ x / 2 ^ (m + h) = rw (add-comm m h) (shr-shr x h m) in
+    rw (suc-add m h, e, bits-split m h x)
+
+pub bits-mod : (w x : ℕ) → bits w (x % 2 ^ w) ≡ bits w x
+bits-mod w x = sym (bits-low w (x / 2 ^ w) (x % 2 ^ w)) ∙ ap (bits w) (split x w)
+
+-- ---- ones
+
+pub sum-append : (xs ys : List ℕ) → sum (xs ++ ys) ≡ sum xs + sum ys
+unfolding sum
+sum-append [] ys = omega arith
+sum-append (x ∷ xs) ys = omega (arith, sum-append xs ys)
+
+-- the ones, part by part
+pub sum-take-add : (n m : ℕ) (bs : List ℕ) → sum (take (n + m) bs) ≡ sum (take n bs) + sum (take m (drop n bs))
+sum-take-add n m bs = rw (take-add n m bs) (sum-append (take n bs) (take m (drop n bs)))
+
+pub sum-le : (bs : List ℕ) (n : ℕ) → Bits bs → sum (take n bs) ≤ n
+unfolding sum
+sum-le bs zero h = omega arith
+sum-le [] (suc n) h = omega arith
+sum-le (b ∷ bs) (suc n) h = omega (arith, sum-le bs n (h .1))
+
+-- ---- bits to bytes and back
+
+pub bytes-bits : (k : ℕ) (bs : List ℕ) → Bits bs → k * 8 ≤ length bs → fixed 8 (bytesOf k bs) ≡ take (k * 8) bs
+unfolding fixed bytesOf
+bytes-bits zero bs h l = refl
+bytes-bits (suc k) bs h l =
+    let e : suc k * 8 ≡ 8 + k * 8 = omega arith in
+    let n : length (take 8 bs) ≡ 8 = length-take-le 8 bs (omega arith) in
+    let b : bits 8 (number (take 8 bs)) ≡ take 8 bs = rw n at (bits-number (take 8 bs) (bits-take 8 bs h)) in
+    rw (e, take-add 8 (k * 8) bs, b, bytes-bits k (drop 8 bs) (bits-drop 8 bs h) (simp length-drop (omega arith)))
+
+length-bytesOf : (k : ℕ) (bs : List ℕ) → length (bytesOf k bs) ≡ k
+unfolding bytesOf
+length-bytesOf zero bs = refl
+length-bytesOf (suc k) bs = ap suc (length-bytesOf k (drop 8 bs))
+
+pub length-padded : (bs : List ℕ) → length (padded bs) ≡ bytesFor (length bs)
+unfolding padded
+length-padded bs = length-bytesOf (bytesFor (length bs)) (bs ++ replicate 7 0)
+
+-- ---- a part of bits, as a number
+
+pub number-mid : (a m z : List ℕ) → Bits m → Bits z → number (a ++ (m ++ z)) / 2 ^ length z % 2 ^ length m ≡ number m
+number-mid a m z hm hz =
+    let s : number (a ++ (m ++ z)) ≡ (number a * 2 ^ length m + number m) * 2 ^ length z + number z =
+    simp (number-append, length-append, pow-add) (omega arith) in
+    rw (s, high (number a * 2 ^ length m + number m) (length z) (number-lt z hz), low (number a) (length m) (number-lt m hm))
+
+pub number-part : (bs : List ℕ) (p w r : ℕ) → Bits bs → p + w + r ≡ length bs → number (take w (drop p bs)) ≡ number bs / 2 ^ r % 2 ^ w
+number-part bs p w r h e =
+    let d = drop p bs in
+    let lm : length (take w d) ≡ w = length-take-le w d (simp length-drop (omega arith)) in
+    let lz : length (drop w d) ≡ r = simp length-drop (omega arith) in
+    sym (rw (lm, lz, take-append-drop w d, take-append-drop p bs) at
+    (number-mid (take p bs) (take w d) (drop w d) (bits-take w d (bits-drop p bs h)) (bits-drop w d (bits-drop p bs h))))
+
+-- w bits spell less than 2 ^ w
+pub number-take-lt : (bs : List ℕ) (w : ℕ) → Bits bs → number (take w bs) < 2 ^ w
+number-take-lt bs w h =
+    let l : length (take w bs) ≤ w = simp length-take (omega arith) in
+    lt-of-lt-of-le (number-lt (take w bs) (bits-take w bs h)) (pow-mono l)

@@ -1,0 +1,17 @@
+-- Laws that belong to no one function, each file about what its name says; Promises proves what specs/Promises states.
+pub mod Best
+pub mod Bits
+pub mod BitsWritten
+pub mod ChunkCounts
+pub mod CodeByte
+pub mod Fetches
+pub mod Fields
+pub mod Layers
+pub mod Lists
+pub mod Masks
+pub mod Parts
+pub mod Promises
+pub mod Tallies
+pub mod Turns
+pub mod Widths
+pub mod Words

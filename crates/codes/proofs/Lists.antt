@@ -1,0 +1,17 @@
+-- Lists that agree from one place on.
+use mathlib.Core.Path.{_≡_, sym, ap, _∙_}
+use mathlib.Core.List.{List}
+use Prim.Native.Nat.{ℕ, _+_, _-_, _≤_}
+use native.Mathlib.Nat.{add-zero}
+use native.Mathlib.Omega.{arith}
+use lib.ListN.{drop, getD}
+use lib.Seq.{drop-drop, getD-drop}
+
+module _ {ℓ} {A : Type ℓ} (xs ys : List A) (n : ℕ) (e : drop n xs ≡ drop n ys) where
+  pub drop-later : (m : ℕ) → n ≤ m → drop m xs ≡ drop m ys
+  drop-later m h =
+      let k : n + (m - n) ≡ m = omega arith in
+      rw (← k, ← (drop-drop (m - n) n xs), ← (drop-drop (m - n) n ys), e)
+
+  pub getD-there : (d : A) → getD xs n d ≡ getD ys n d
+  getD-there d = rw (add-zero n) at (sym (getD-drop n xs 0 d) ∙ ap (λ (l : List A). getD l 0 d) e ∙ getD-drop n ys 0 d)

@@ -1,0 +1,139 @@
+-- Bits of a part, read by bytes and counted by words.
+use mathlib.Core.Path.{_≡_, refl, _∙_}
+use mathlib.Core.List.{List, [], _∷_, append-nil}
+use Prim.Native.Nat.{ℕ, zero, suc, _+_, _-_, _*_, _/_, _%_, _^_, _≤_, _<_, min}
+use native.Mathlib.Nat.{mod-eq-of-lt, min-eq-left, min-eq-right}
+use native.Mathlib.Decide.{decLe}
+use native.Mathlib.Omega.{arith}
+use lib.ListN.{length, take, drop, getD, length-drop}
+use lib.Seq.{take-take, take-add, drop-drop, length-take-le}
+use lib.Arith.{digits-lt}
+use lib.Count.{ones, ones-cat}
+use lib.Pow.{pow-add}
+use Rattle.codes.specs.Bits.{number, sum, bitsOf}
+use Rattle.codes.proofs.Bits.{Bits, bits-take, bits-drop, bits-fixed, length-fixed, fixed-at, number-bits, number-append, number-lt, number-part, number-take-lt, sum-take-add, sum-le}
+
+-- ---- numbers in a part
+
+-- the bits from `at` on
+abbrev pub from : List ℕ → ℕ → List ℕ
+from bytes at = drop at (bitsOf bytes)
+
+bits-from : (bytes : List ℕ) (at : ℕ) → Bits (from bytes at)
+bits-from bytes at = bits-drop at (bitsOf bytes) (bits-fixed 8 bytes)
+
+-- the number of n bits, and of m bits after them
+pub number-more : (bytes : List ℕ) (at n m : ℕ) → at + n + m ≤ length bytes * 8
+    → number (take (n + m) (from bytes at)) ≡ number (take n (from bytes at)) * 2 ^ m + number (take m (from bytes (at + n)))
+number-more bytes at n m h =
+    let l : length (take m (from bytes (at + n))) ≡ m = length-take-le m (from bytes (at + n)) (simp (length-drop, length-fixed) (omega arith)) in
+    rw (take-add n m (from bytes at), drop-drop n at (bitsOf bytes), number-append, l)
+
+-- one byte
+pub number-byte : (bytes : List ℕ) (i : ℕ) → i < length bytes → getD bytes i 0 < 256 → number (take 8 (from bytes (i * 8))) ≡ getD bytes i 0
+number-byte bytes i h k = rw (rw append-nil at (fixed-at 8 bytes i [] h), number-bits, mod-eq-of-lt k)
+
+-- four bytes
+pub number-four : (bytes : List ℕ) (i : ℕ) → i + 4 ≤ length bytes → ((j : ℕ) → getD bytes j 0 < 256)
+    → number (take 32 (from bytes (i * 8))) ≡ getD bytes i 0 * 2 ^ 24 + getD bytes (i + 1) 0 * 2 ^ 16 + getD bytes (i + 2) 0 * 2 ^ 8 + getD bytes (i + 3) 0
+number-four bytes i h k =
+    let e1 : i * 8 + 8 ≡ (i + 1) * 8 = omega arith in
+    let e2 : (i + 1) * 8 + 8 ≡ (i + 2) * 8 = omega arith in
+    let e3 : (i + 2) * 8 + 8 ≡ (i + 3) * 8 = omega arith in
+    rw (
+      number-more bytes (i * 8) 8 24 (omega arith),
+      e1,
+      number-more bytes ((i + 1) * 8) 8 16 (omega arith),
+      e2,
+      number-more bytes ((i + 2) * 8) 8 8 (omega arith),
+      e3,
+      number-byte bytes i (omega arith) (k i),
+      number-byte bytes (i + 1) (omega arith) (k (i + 1)),
+      number-byte bytes (i + 2) (omega arith) (k (i + 2)),
+      number-byte bytes (i + 3) (omega arith) (k (i + 3)),
+    )
+    (omega arith)
+
+-- so many bits spell less than a power of two
+pub part-lt : (bytes : List ℕ) (at w : ℕ) → number (take w (from bytes at)) < 2 ^ w
+part-lt bytes at w = number-take-lt (from bytes at) w (bits-from bytes at)
+
+take-drop-take : (w s m : ℕ) (l : List ℕ) → s + w ≤ m → take w (drop s (take m l)) ≡ take w (drop s l)
+take-drop-take w zero m l h = take-take w m l (omega arith)
+take-drop-take w (suc s) zero l h = absurd (omega arith)
+take-drop-take w (suc s) (suc m) [] h = refl
+take-drop-take w (suc s) (suc m) (x ∷ l) h = take-drop-take w s m l (omega arith)
+
+-- w bits from bit `at` on, in the n bytes from byte `first` on, where r bits follow them
+pub read-part : (bytes : List ℕ) (at w first n r : ℕ) → first * 8 ≤ at → at + w + r ≡ (first + n) * 8 → first + n ≤ length bytes
+    → number (take w (from bytes at)) ≡ number (take (n * 8) (from bytes (first * 8))) / 2 ^ r % 2 ^ w
+read-part bytes at w first n r l h k =
+    let d = from bytes (first * 8) in
+    let s = at - first * 8 in
+    let e : first * 8 + s ≡ at = omega arith in
+    let e' : take w (from bytes at) ≡ take w (drop s d) = rw (drop-drop s (first * 8) (bitsOf bytes), e) in
+    let len : length (take (n * 8) d) ≡ n * 8 = length-take-le (n * 8) d (simp (length-drop, length-fixed) (omega arith)) in
+    rw (e', ← (take-drop-take w s (n * 8) d (omega arith)))
+    (number-part (take (n * 8) d) s w r (bits-take (n * 8) d (bits-from bytes (first * 8))) (omega arith))
+
+-- ---- ones in a part
+
+ones-bit : (b : ℕ) → b < 2 → ones b ≡ b
+unfolding ones
+ones-bit zero h = refl
+ones-bit (suc zero) h = refl
+ones-bit (suc (suc b)) h = absurd (omega arith)
+
+-- the ones of a number are those of its bits
+ones-number : (bs : List ℕ) → Bits bs → ones (number bs) ≡ sum bs
+unfolding number sum ones
+ones-number [] h = refl
+ones-number (b ∷ bs) h = rw (ones-cat (length bs) b (number bs) (number-lt bs (h .1)), ones-bit b (h .0), ones-number bs (h .1))
+
+pub ones-part : (bytes : List ℕ) (at w : ℕ) → ones (number (take w (from bytes at))) ≡ sum (take w (from bytes at))
+ones-part bytes at w = ones-number (take w (from bytes at)) (bits-take w (from bytes at) (bits-from bytes at))
+
+pub sum-part-le : (bytes : List ℕ) (at w : ℕ) → sum (take w (from bytes at)) ≤ w
+sum-part-le bytes at w = sum-le (from bytes at) w (bits-from bytes at)
+
+-- the ones of n bits and of m bits after them
+pub ones-more : (bytes : List ℕ) (at n m : ℕ) → sum (take (n + m) (from bytes at)) ≡ sum (take n (from bytes at)) + sum (take m (from bytes (at + n)))
+ones-more bytes at n m = sum-take-add n m (from bytes at) ∙ rw (drop-drop n at (bitsOf bytes))
+
+-- the number that k bytes spell from the last one on
+abbrev pub reversed : ℕ → List ℕ → ℕ → ℕ
+reversed zero bytes i = 0
+reversed (suc k) bytes i = reversed k bytes i + getD bytes (i + k) 0 * 2 ^ (k * 8)
+
+-- has the ones of their bits
+pub ones-reversed : (k : ℕ) (bytes : List ℕ) (i : ℕ) → i + k ≤ length bytes → ((j : ℕ) → getD bytes j 0 < 256)
+    → (reversed k bytes i < 2 ^ (k * 8)) × (ones (reversed k bytes i) ≡ sum (take (k * 8) (from bytes (i * 8))))
+unfolding ones sum
+ones-reversed zero bytes i h b = (omega arith, refl)
+ones-reversed (suc k) bytes i h b =
+    let ih = ones-reversed k bytes i (omega arith) b in
+    let x = getD bytes (i + k) 0 in
+    let r = reversed k bytes i in
+    let e : suc k * 8 ≡ k * 8 + 8 = omega arith in
+    let e' : suc k * 8 ≡ 8 + k * 8 = omega arith in
+    let e'' : i * 8 + k * 8 ≡ (i + k) * 8 = omega arith in
+    let swap : r + x * 2 ^ (k * 8) ≡ x * 2 ^ (k * 8) + r = omega arith in
+    let here : ones x ≡ sum (take 8 (from bytes ((i + k) * 8))) = rw (← (number-byte bytes (i + k) (omega arith) (b (i + k)))) (ones-part bytes ((i + k) * 8) 8) in (
+      rw (swap, e', pow-add 2 8 (k * 8)) (digits-lt {c = 2 ^ (k * 8)} (b (i + k)) (ih .0)),
+      rw (swap, ones-cat (k * 8) x r (ih .0), here, e, ones-more bytes (i * 8) (k * 8) 8, e'') (omega arith),
+    )
+
+-- whole words begin at a whole byte
+pub ones-words : (bytes : List ℕ) (start words : ℕ) → (0 < words → start / 8 * 8 ≡ start)
+    → sum (take (words * 64) (from bytes (start / 8 * 8))) ≡ sum (take (words * 64) (from bytes start))
+ones-words bytes start zero h = refl
+ones-words bytes start (suc k) h = rw (h (omega arith))
+
+-- bits up to a whole byte, of which there may be fewer, and then a word
+pub whole-byte : (from to : ℕ) → from ≤ to → let start = from + min (to - from) (7 - (from + 7) % 8) in
+    0 < (to - start) / 64 → start / 8 * 8 ≡ start
+whole-byte from to h w =
+    elim (decLe (7 - (from + 7) % 8) (to - from)) [ yes l ↦ rw (min-eq-right l) (omega arith) | no l ↦ absurd (none (min-eq-left (omega arith)) w) ]
+  where
+    none : min (to - from) (7 - (from + 7) % 8) ≡ to - from → 0 < (to - (from + min (to - from) (7 - (from + 7) % 8))) / 64 → ⊥
+    none e k = let z : 0 < (to - (from + (to - from))) / 64 = rw e at k in omega arith

@@ -1,0 +1,140 @@
+-- `ones_word` meets its contract.
+use native.Mathlib.Omega.{arith}
+use borrow.Author.Needs.{needs}
+use mathlib.Core.Path.{_≡_, ap, _∙_}
+use Prim.Native.Nat.{_+_}
+use native.Mathlib.Nat.{add-zero}
+use lib.Count.{ones}
+use lib.ListN.{getD}
+use Rattle.codes.proofs.Words.{ones-reversed}
+use Rattle.codes.proofs.reading.ones_word.Statement.{statement}
+use Rattle.codes.proofs.reading.ones_word.Tie as tie
+
+byte-requires : tie.Need-byte-requires
+byte-requires c κs = search needs
+
+add-byte : tie.Need-add-byte
+add-byte c = search needs
+
+byte-requires-2 : tie.Need-byte-requires-2
+byte-requires-2 c κs = search needs
+
+mul-low : tie.Need-mul-low
+mul-low c = search needs
+
+add-low : tie.Need-add-low
+add-low c = search needs
+
+add-byte-2 : tie.Need-add-byte-2
+add-byte-2 c = search needs
+
+byte-requires-3 : tie.Need-byte-requires-3
+byte-requires-3 c κs = search needs
+
+mul-low-2 : tie.Need-mul-low-2
+mul-low-2 c = search needs
+
+add-low-2 : tie.Need-add-low-2
+add-low-2 c = search needs
+
+add-byte-3 : tie.Need-add-byte-3
+add-byte-3 c = search needs
+
+byte-requires-4 : tie.Need-byte-requires-4
+byte-requires-4 c κs = search needs
+
+mul-low-3 : tie.Need-mul-low-3
+mul-low-3 c = search needs
+
+add-low-3 : tie.Need-add-low-3
+add-low-3 c = search needs
+
+add-byte-4 : tie.Need-add-byte-4
+add-byte-4 c = search needs
+
+byte-requires-5 : tie.Need-byte-requires-5
+byte-requires-5 c κs = search needs
+
+mul-result : tie.Need-mul-result
+mul-result c = search needs
+
+add-result : tie.Need-add-result
+add-result c = search needs
+
+add-byte-5 : tie.Need-add-byte-5
+add-byte-5 c = search needs
+
+byte-requires-6 : tie.Need-byte-requires-6
+byte-requires-6 c κs = search needs
+
+mul-result-2 : tie.Need-mul-result-2
+mul-result-2 c = search needs
+
+add-result-2 : tie.Need-add-result-2
+add-result-2 c = search needs
+
+add-byte-6 : tie.Need-add-byte-6
+add-byte-6 c = search needs
+
+byte-requires-7 : tie.Need-byte-requires-7
+byte-requires-7 c κs = search needs
+
+mul-result-3 : tie.Need-mul-result-3
+mul-result-3 c = search needs
+
+add-result-3 : tie.Need-add-result-3
+add-result-3 c = search needs
+
+add-byte-7 : tie.Need-add-byte-7
+add-byte-7 c = search needs
+
+byte-requires-8 : tie.Need-byte-requires-8
+byte-requires-8 c κs = search needs
+
+mul-result-4 : tie.Need-mul-result-4
+mul-result-4 c = search needs
+
+add-result-4 : tie.Need-add-result-4
+add-result-4 c = search needs
+
+returns : tie.Need-returns
+returns c =
+    let a = c .before .before .before .before .before .before .before .before .before .args in
+    let known = c .before .before .before .before .before .before .before .before .shared-slice-known in
+    let first : getD (a .part .now) (a .first + 0) 0 ≡ getD (a .part .now) (a .first) 0 = rw (add-zero (a .first)) in
+    ap ones (omega arith) ∙ ones-reversed 8 (a .part .now) (a .first) (omega arith) (λ i. known .given i .fits) .1
+
+pub ones-word-spec : {M : Type 1} → statement M
+ones-word-spec =
+    tie.close
+    (tie.spec
+    byte-requires
+    add-byte
+    byte-requires-2
+    mul-low
+    add-low
+    add-byte-2
+    byte-requires-3
+    mul-low-2
+    add-low-2
+    add-byte-3
+    byte-requires-4
+    mul-low-3
+    add-low-3
+    add-byte-4
+    byte-requires-5
+    mul-result
+    add-result
+    add-byte-5
+    byte-requires-6
+    mul-result-2
+    add-result-2
+    add-byte-6
+    byte-requires-7
+    mul-result-3
+    add-result-3
+    add-byte-7
+    byte-requires-8
+    mul-result-4
+    add-result-4
+    returns)

@@ -1,0 +1,41 @@
+-- Bits, highest first, and the bytes that they fill.
+use mathlib.Core.List.{List, [], _∷_, _++_}
+use Prim.Native.Nat.{ℕ, zero, suc, _+_, _*_, _/_, _%_, _^_}
+use lib.ListN.{length, take, drop, replicate}
+
+-- the w lowest bits of x, highest first
+unfoldable pub bits : ℕ → ℕ → List ℕ
+bits zero x = []
+bits (suc w) x = (x / 2 ^ w % 2) ∷ bits w x
+
+-- the number that bits spell
+unfoldable pub number : List ℕ → ℕ
+number [] = 0
+number (b ∷ bs) = b * 2 ^ length bs + number bs
+
+-- of bits, how many are 1
+unfoldable pub sum : List ℕ → ℕ
+sum [] = 0
+sum (x ∷ xs) = x + sum xs
+
+-- numbers one after the other, each in w bits
+unfoldable pub fixed : ℕ → List ℕ → List ℕ
+fixed w [] = []
+fixed w (v ∷ vs) = bits w v ++ fixed w vs
+
+-- the bits of bytes: bits fill bytes from the top
+abbrev pub bitsOf : List ℕ → List ℕ
+bitsOf bytes = fixed 8 bytes
+
+-- the first k bytes that bits fill
+unfoldable pub bytesOf : ℕ → List ℕ → List ℕ
+bytesOf zero bs = []
+bytesOf (suc k) bs = number (take 8 bs) ∷ bytesOf k (drop 8 bs)
+
+-- whole bytes that hold n bits
+abbrev pub bytesFor : ℕ → ℕ
+bytesFor n = (n + 7) / 8
+
+-- bits padded with zero bits to whole bytes
+unfoldable pub padded : List ℕ → List ℕ
+padded bs = bytesOf (bytesFor (length bs)) (bs ++ replicate 7 0)

@@ -1,0 +1,47 @@
+-- The code that pack chooses for a level.
+use mathlib.Core.Bool.{cond}
+use mathlib.Core.List.{List, [], _∷_}
+use Prim.Native.Nat.{ℕ, zero, suc, _+_, _-_, _/_, max}
+use lib.Dec.{eqb, ltb}
+use lib.ListN.{length}
+use Rattle.codes.specs.declared.choosing.Choice.{Choice}
+use Rattle.codes.specs.Codes.{levelBits}
+
+-- the bits of v up to its highest one bit, of which it has at most f
+unfoldable pub widthIn : ℕ → ℕ → ℕ
+widthIn zero v = 0
+widthIn (suc f) v = let r = suc (widthIn f (v / 2)) in cond (eqb v 0) 0 r
+
+-- the least width that holds a 32-bit value; `width-least` and `width-holds` in proofs/Widths say so
+abbrev pub width : ℕ → ℕ
+width v = widthIn 32 v
+
+-- the least width that holds the largest value, 0 if all are 0
+unfoldable pub widest : List ℕ → ℕ
+widest [] = 0
+widest (v ∷ vs) = max (width v) (widest vs)
+
+-- one chunk for 0, otherwise as many b-bit chunks as reach the highest one bit
+abbrev pub chunks : ℕ → ℕ → ℕ
+chunks b v = max 1 ((width v + (b - 1)) / b)
+
+-- bits before padding
+abbrev pub size : ℕ → List ℕ → ℕ
+size code vs = length (levelBits code vs)
+
+-- a code with its size
+abbrev pub offer : ℕ → List ℕ → Choice
+offer code vs = record { code = code; size = size code vs }
+
+-- the second where it has fewer bits
+abbrev pub better : Choice → Choice → Choice
+better a b = cond (ltb (b .size) (a .size)) b a
+
+-- the best of the fixed code and the chunked codes with b up to k
+unfoldable pub bestTo : ℕ → List ℕ → Choice
+bestTo zero vs = offer (widest vs) vs
+bestTo (suc k) vs = better (bestTo k vs) (offer (64 + suc k) vs)
+
+-- the code with fewest bits; on a tie a fixed code wins, then the smaller b
+abbrev pub chosen : List ℕ → Choice
+chosen vs = bestTo 8 vs

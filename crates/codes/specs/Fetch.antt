@@ -1,0 +1,58 @@
+-- A fetch: value j of a level of count values, from the level's part alone.
+use mathlib.Core.Bool.{cond}
+use mathlib.Core.List.{List}
+use Prim.Native.Nat.{ℕ, zero, suc, _+_, _*_, _^_}
+use lib.Dec.{eqb, ltb}
+use lib.ListN.{length, take, drop, getD}
+use Rattle.codes.specs.declared.kinds.Kind.{Kind}
+use Rattle.codes.specs.declared.kinds.Kind.the-variants.{Fixed, Chunked, Refused}
+use Rattle.codes.specs.declared.fetching.Found.{Found}
+use Rattle.codes.specs.declared.fetching.Found.the-variants.{Value, Outside}
+use Rattle.codes.specs.Bits.{number, sum, bitsOf}
+use Rattle.codes.specs.Codes.{kindOf}
+
+-- a value, or refusal 9: the fetch passes its part, or its value is 2 ^ 32 or more
+pub data Fetched : Type 0 where
+  value : ℕ → Fetched
+  outside : Fetched
+
+-- the answer of the code
+abbrev pub found : Found → Fetched
+found (Value v) = value v
+found Outside = outside
+
+-- fixed: the value's bits must lie in the part
+unfoldable pub fixedAt : ℕ → ℕ → List ℕ → Fetched
+fixedAt w j bs = cond (ltb (length bs) ((j + 1) * w)) outside (value (number (take w (drop (j * w) bs))))
+
+-- the value with lowest chunk c, of b bits, and what is found above it
+abbrev pub topped : ℕ → ℕ → Fetched → Fetched
+topped b c (value v) = value (c + 2 ^ b * v)
+topped b c outside = outside
+
+-- Chunked: the layer must lie whole in the part. Where the continuation bit is 1 the value goes on in the next layer, which
+-- has as many values as there are ones, at the place that the ones before it count.
+unfoldable pub fetchLayers : ℕ → ℕ → ℕ → ℕ → List ℕ → Fetched
+fetchLayers zero b count j bs = outside
+fetchLayers (suc f) b count j bs =
+    let c = number (take b (drop (count + j * b) bs)) in
+    let above = topped b c (fetchLayers f b (sum (take count bs)) (sum (take j bs)) (drop (count + count * b) bs)) in
+    cond (ltb (length bs) (count + count * b)) outside (cond (eqb (getD bs j 0) 0) (value c) above)
+
+-- Every layer takes at least one bit, so there are no more layers than bits; `fetch-step` in proofs/Layers has the equation
+-- without their number.
+unfoldable pub chunkedAt : ℕ → ℕ → ℕ → List ℕ → Fetched
+chunkedAt b count j bs = fetchLayers (suc (length bs)) b count j bs
+
+-- a value of 2 ^ 32 or more is refused; chunks of zeros on top add nothing
+abbrev pub within32 : Fetched → Fetched
+within32 (value v) = cond (ltb v (2 ^ 32)) (value v) outside
+within32 outside = outside
+
+abbrev pub kindFetched : Kind → ℕ → ℕ → List ℕ → Fetched
+kindFetched (Fixed w) count j bs = fixedAt w j bs
+kindFetched (Chunked b) count j bs = within32 (chunkedAt b count j bs)
+kindFetched Refused count j bs = outside
+
+unfoldable pub fetched : ℕ → ℕ → ℕ → List ℕ → Fetched
+fetched code count j bytes = kindFetched (kindOf code) count j (bitsOf bytes)

@@ -1,0 +1,10 @@
+-- What the level codes mean. A reader of the public contracts needs Bits, Codes, Choice and Fetch; Marked has the marked
+-- parts, Promises what is shown besides the contracts. Measure and Pen are cited by private functions alone.
+pub mod Bits
+pub mod Codes
+pub mod Choice
+pub mod Fetch
+pub mod Marked
+pub mod Promises
+pub mod Measure
+pub mod Pen

@@ -1,0 +1,24 @@
+-- What choose learns of the values in its one pass over them.
+use mathlib.Core.Path.{_≡_}
+use mathlib.Core.Bool.{cond}
+use mathlib.Core.List.{List, [], _∷_}
+use Prim.Native.Nat.{ℕ, _+_, _≤_}
+use lib.Dec.{eqb}
+use lib.ListN.{length, getD}
+use Rattle.codes.specs.Codes.{rest, Within}
+use Rattle.codes.specs.Choice.{width}
+
+-- how many values have width t
+unfoldable pub tally : ℕ → List ℕ → ℕ
+tally t [] = 0
+tally t (v ∷ vs) = cond (eqb (width v) t) 1 0 + tally t vs
+
+-- counts[t] of the values have width t
+pub record Tallied (vs counts : List ℕ) : Type 0 where
+  pub each : (t : ℕ) → t ≤ 32 → getD counts t 0 ≡ tally t vs
+  pub within : Within 32 vs
+
+-- over[t] of the values have more than t bits
+pub record Measured (vs over : List ℕ) : Type 0 where
+  pub each : (t : ℕ) → t ≤ 32 → getD over t 0 ≡ length (rest t vs)
+  pub within : Within 32 vs

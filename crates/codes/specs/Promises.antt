@@ -1,0 +1,37 @@
+-- What is shown of the level codes besides each function's contract. proofs/Promises proves each, under the same name.
+use mathlib.Core.Path.{_≡_}
+use mathlib.Core.List.{List, _++_, map}
+use Prim.Native.Nat.{ℕ, _+_, _*_, _≤_, _<_}
+use lib.ListN.{length, take, drop, getD}
+use Rattle.codes.specs.declared.kinds.Kind.the-variants.{Fixed, Chunked}
+use Rattle.codes.specs.Bits.{sum, bytesFor}
+use Rattle.codes.specs.Codes.{kindOf, part, Within, Holds}
+use Rattle.codes.specs.Choice.{chunks, size, chosen}
+use Rattle.codes.specs.Fetch.{value, fetched}
+
+-- 1. By any code that holds the values, a fetch from their part, followed by any bytes or none, gives each value back.
+abbrev pub RoundTrip : Type 0
+RoundTrip = (code : ℕ) (vs after : List ℕ) (j : ℕ) → Holds (kindOf code) vs → j < length vs
+    → fetched code (length vs) j (part code vs ++ after) ≡ value (getD vs j 0)
+
+-- 2. A part's length is the size rounded up to bytes; a fixed level takes its width for each value, and a chunked one b + 1 bits for each chunk of each value.
+pub record Lengths : Type 0 where
+  pub rounded : (code : ℕ) (vs : List ℕ) → length (part code vs) ≡ bytesFor (size code vs)
+  pub fixed-size : (code w : ℕ) (vs : List ℕ) → kindOf code ≡ Fixed w → size code vs ≡ length vs * w
+  pub chunked-size : (code b : ℕ) (vs : List ℕ) → kindOf code ≡ Chunked b → Within 32 vs → size code vs ≡ (b + 1) * sum (map (chunks b) vs)
+
+-- 3. The chosen code holds the values, its size is the one given with it, and no code byte that holds them has fewer bits. Among
+-- those with as many bits it has the least number: a fixed code goes before the chunked ones, and those by b.
+pub record Best (vs : List ℕ) : Type 0 where
+  pub holds : Holds (kindOf (chosen vs .code)) vs
+  pub its-size : chosen vs .size ≡ size (chosen vs .code) vs
+  pub fewest : (code : ℕ) → Holds (kindOf code) vs → chosen vs .size ≤ size code vs
+  pub on-tie : (code : ℕ) → Holds (kindOf code) vs → size code vs ≡ chosen vs .size → chosen vs .code ≤ code
+
+abbrev pub BestChoice : Type 0
+BestChoice = (vs : List ℕ) → Within 32 vs → Best vs
+
+-- 4. What a fetch gives depends only on the part: whatever bytes stand before and after it, a fetch that is handed its slice gives the same.
+abbrev pub PartAlone : Type 0
+PartAlone = (code count j : ℕ) (before bytes after : List ℕ)
+    → fetched code count j (take (length bytes) (drop (length before) (before ++ (bytes ++ after)))) ≡ fetched code count j bytes

@@ -1,0 +1,115 @@
+// One value of a level, from the level's part alone.
+use super::kinds::Kind;
+use super::kinds::kind_of;
+use super::reading::count_ones;
+use super::reading::least;
+use super::reading::read;
+ghost use mathlib.Core.Path.{_≡_};
+ghost use Prim.Native.Nat.{_+_, _*_, _-_, _^_, _<_, _≤_};
+ghost use lib.ListN.{length, take, drop};
+ghost use Rattle.codes.specs.Bits.{number, sum, bitsOf};
+ghost use Rattle.codes.specs.Fetch.{found, fixedAt, chunkedAt, within32, fetched};
+
+// What a fetch finds: a value, or that it passes its part or the value is 2^32 or more.
+pub enum Found {
+    Value(u32),
+    Outside,
+}
+
+// A layer of a chunked level: the bit where it begins, how many values it has, and which of them is fetched.
+struct Layer {
+    at: usize,
+    count: usize,
+    index: usize,
+}
+
+// Value `index` of a fixed code of width `w`.
+fn fetch_fixed(part: &[u8], w: usize, index: usize) -> Found
+    requires { ⌜ (w ≤ 32) × (length (now part) < 2 ^ 32) ⌝ }
+    ensures { λ r. ⌜ found r ≡ fixedAt w index (bitsOf (now (part .entry))) ⌝ }
+{
+    if w == 0 {
+        return Found::Value(0);
+    }
+    let end = part.len() * 8;
+    if end <= index {
+        return Found::Outside;
+    }
+    if end < (index + 1) * w {
+        return Found::Outside;
+    }
+    Found::Value(read(part, index * w, w) as u32)
+}
+
+// The `b` bits from bit `at` on, `shift` bits up.
+fn chunk_at(part: &[u8], at: usize, b: usize, shift: usize) -> u64
+    requires { ⌜ (1 ≤ b) × (b ≤ 8) × (shift ≤ 32) ⌝ }
+    requires { ⌜ at + b ≤ length (now part) * 8 ⌝ }
+    ensures { λ r. ⌜ (r < 2 ^ 40) × (r ≡ number (take b (drop at (bitsOf (now (part .entry))))) * 2 ^ shift) ⌝ }
+{
+    read(part, at, b) << shift
+}
+
+// The layer after one that lies whole in the part: its values are those whose continuation bit is 1.
+fn next_layer(part: &[u8], b: usize, layer: Layer) -> Layer
+    requires { ⌜ (b ≤ 8) × (layer .index ≤ layer .count) × (length (now part) < 2 ^ 32) ⌝ }
+    requires { ⌜ layer .at + layer .count + layer .count * b ≤ length (now part) * 8 ⌝ }
+    ensures { λ r. ⌜ (r .at ≡ layer .at + layer .count + layer .count * b)
+        × (r .index ≡ sum (take (layer .index) (drop (layer .at) (bitsOf (now (part .entry))))))
+        × (r .count ≡ r .index + sum (take (layer .count - layer .index) (drop (layer .at + layer .index) (bitsOf (now (part .entry))))))
+        × (r .count ≤ layer .count) ⌝ }
+{
+    let own = layer.at + layer.index;
+    let chunks = layer.at + layer.count;
+    let before = count_ones(part, layer.at, own);
+    let after = count_ones(part, own, chunks);
+    Layer {
+        at: chunks + layer.count * b,
+        count: before + after,
+        index: before,
+    }
+}
+
+// Value `index` of `count` in the layers of b-bit chunks that the part begins with. Above 32 bits only zeros are left, so the
+// shift stops there.
+fn fetch_chunked(part: &[u8], b: usize, count: usize, index: usize) -> Found
+    requires { ⌜ (1 ≤ b) × (b ≤ 8) × (index < count) × (length (now part) < 2 ^ 32) ⌝ }
+    ensures { λ r. ⌜ found r ≡ within32 (chunkedAt b count index (bitsOf (now (part .entry)))) ⌝ }
+{
+    let end = part.len() * 8;
+    if end < count {
+        return Found::Outside;
+    }
+    let mut layer = Layer {
+        at: 0,
+        count: count,
+        index: index,
+    };
+    let mut shift: usize = 0;
+    let mut acc: u64 = 0;
+    while layer.count + layer.count * b <= end - layer.at {
+        acc += chunk_at(part, layer.at + layer.count + layer.index * b, b, shift);
+        if acc >= 4294967296 {
+            return Found::Outside;
+        }
+        if read(part, layer.at + layer.index, 1) == 0 {
+            return Found::Value(acc as u32);
+        }
+        layer = next_layer(part, b, layer);
+        shift = least(shift + b, 32);
+    }
+    Found::Outside
+}
+
+// Value `index` of a level of `count` values, in code `code`, from the level's part alone.
+pub fn fetch(part: &[u8], code: u8, count: usize, index: usize) -> Found
+    requires { ⌜ (index < count) × (length (now part) < 2 ^ 32) ⌝ }
+    ensures { λ r. ⌜ found r ≡ fetched code count index (now (part .entry)) ⌝ }
+{
+    let kind = kind_of(code);
+    match kind {
+        Kind::Fixed(w) => fetch_fixed(part, w, index),
+        Kind::Chunked(b) => fetch_chunked(part, b, count, index),
+        Kind::Refused => Found::Outside,
+    }
+}

@@ -1,0 +1,16 @@
+// Level codes: the values of one level and the bytes of its part.
+mod choosing; // the code with fewest bits
+mod encoding; // a level's part, written
+mod fetching; // one value, from the part alone
+mod kinds; // what a code byte says
+mod measuring; // how many values have how many bits
+mod reading; // bits of a part, by bytes and words
+mod writing; // bits into a buffer, one after the other
+
+pub use choosing::Choice;
+pub use choosing::choose;
+pub use encoding::encode;
+pub use fetching::Found;
+pub use fetching::fetch;
+pub use kinds::Kind;
+pub use kinds::kind_of;

@@ -1,0 +1,104 @@
+// Bits into a buffer, one after the other.
+ghost use mathlib.Core.Path.{_≡_};
+ghost use mathlib.Core.List.{[]};
+ghost use Prim.Native.Nat.{_+_, _*_, _-_, _/_, _%_, _^_, _<_, _≤_};
+ghost use lib.ListN.{length, drop, take};
+ghost use Rattle.codes.specs.Bits.{bits, padded, bytesFor};
+ghost use Rattle.codes.specs.Pen.{written, Wrote};
+
+// Where the next bit goes: `at` whole bytes are written, and the `have` lowest bits of `acc` wait for theirs.
+pub(crate) struct Pen {
+    pub(crate) at: usize,
+    pub(crate) have: usize,
+    pub(crate) acc: u64,
+}
+
+// The bits of `acc`, those that a word has no room for left out, then the `w` bits of `x`.
+pub(crate) fn join(acc: u64, w: usize, x: u64) -> u64
+    requires { ⌜ (w ≤ 32) × (x < 2 ^ w) ⌝ }
+    ensures { λ r. ⌜ r ≡ acc % 2 ^ (64 - w) * 2 ^ w + x ⌝ }
+{
+    (acc << w) | x
+}
+
+// The eight bits of `acc` above its `h` lowest.
+fn byte_above(acc: u64, h: usize) -> u8
+    requires { ⌜ h < 64 ⌝ }
+    ensures { λ r. ⌜ r ≡ acc / 2 ^ h % 256 ⌝ }
+{
+    ((acc >> h) % 256) as u8
+}
+
+// Stores the first 32 of the bits that wait.
+fn flush(out: &mut [u8], pen: Pen) -> Pen
+    requires { ⌜ (32 ≤ pen .have) × (pen .have < 64) ⌝ }
+    requires { ⌜ pen .at * 8 + pen .have ≤ length (now out) * 8 ⌝ }
+    ensures { λ r. ⌜ Wrote (now (out .entry)) pen (now (out .exit)) r [] × (r .have < 32) ⌝ }
+{
+    let at = pen.at;
+    let have = pen.have - 32;
+    out[at] = byte_above(pen.acc, have + 24);
+    out[at + 1] = byte_above(pen.acc, have + 16);
+    out[at + 2] = byte_above(pen.acc, have + 8);
+    out[at + 3] = byte_above(pen.acc, have);
+    Pen {
+        at: at + 4,
+        have: have,
+        acc: pen.acc,
+    }
+}
+
+// Writes the `w` bits of `x`.
+pub(crate) fn put(out: &mut [u8], pen: Pen, w: usize, x: u64) -> Pen
+    requires { ⌜ (w ≤ 32) × (x < 2 ^ w) × (pen .have < 32) ⌝ }
+    requires { ⌜ pen .at * 8 + pen .have + w ≤ length (now out) * 8 ⌝ }
+    ensures { λ r. ⌜ Wrote (now (out .entry)) pen (now (out .exit)) r (bits w x) × (r .have < 32) ⌝ }
+{
+    let joined = Pen {
+        at: pen.at,
+        have: pen.have + w,
+        acc: join(pen.acc, w, x),
+    };
+    if joined.have < 32 {
+        return joined;
+    }
+    flush(out, joined)
+}
+
+// Stores the whole bytes that wait.
+fn drain(out: &mut [u8], pen: Pen) -> Pen
+    requires { ⌜ pen .have < 32 ⌝ }
+    requires { ⌜ pen .at * 8 + pen .have ≤ length (now out) * 8 ⌝ }
+    ensures { λ r. ⌜ Wrote (now (out .entry)) pen (now (out .exit)) r [] × (r .have < 8) × (r .acc ≡ pen .acc) ⌝ }
+{
+    let mut at = pen.at;
+    let mut have = pen.have;
+    while have >= 8 {
+        have -= 8;
+        out[at] = byte_above(pen.acc, have);
+        at += 1;
+    }
+    Pen {
+        at: at,
+        have: have,
+        acc: pen.acc,
+    }
+}
+
+// Stores what waits, the last byte filled with zero bits, and gives how many bytes are written.
+pub(crate) fn finish(out: &mut [u8], pen: Pen) -> usize
+    requires { ⌜ pen .have < 32 ⌝ }
+    requires { ⌜ pen .at * 8 + pen .have ≤ length (now out) * 8 ⌝ }
+    ensures { λ r. ⌜ (r ≡ bytesFor (pen .at * 8 + pen .have))
+        × (take r (now (out .exit)) ≡ padded (written (now (out .entry)) pen))
+        × (drop r (now (out .exit)) ≡ drop r (now (out .entry))) ⌝ }
+{
+    let last = drain(out, pen);
+    let at = last.at;
+    let have = last.have;
+    if have == 0 {
+        return at;
+    }
+    out[at] = byte_above(last.acc << (8 - have), 0);
+    at + 1
+}

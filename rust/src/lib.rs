@@ -1,0 +1,6 @@
+//! Level codes three times over: a slow reference, a plain baseline for speed, and the
+//! proved library behind its C functions.
+
+pub mod proved;
+pub mod reference;
+pub mod straightforward;

@@ -1,0 +1,177 @@
+//! The scope's level codes, bit by bit. Slow on purpose: each function follows the
+//! scope's sentences and nothing else.
+
+#[derive(Debug, PartialEq, Clone, Copy)]
+pub enum Kind {
+    Fixed(u32),
+    Chunked(u32),
+    Refused,
+}
+
+/// "Codes 0..32 are fixed widths in bits; codes 65..72 are chunked with b = code - 64.
+/// All other codes are refused."
+pub fn kind(code: u8) -> Kind {
+    match code {
+        0..=32 => Kind::Fixed(u32::from(code)),
+        65..=72 => Kind::Chunked(u32::from(code) - 64),
+        _ => Kind::Refused,
+    }
+}
+
+/// "A value has one chunk when 0, otherwise as many b-bit chunks as reach its highest
+/// one bit".
+fn chunk_count(value: u32, b: u32) -> u32 {
+    let mut count = 1;
+    while u64::from(value) >> (count * b) > 0 {
+        count += 1;
+    }
+    count
+}
+
+/// The size in bits before padding, or none where the code is refused or does not hold
+/// the values.
+pub fn size(values: &[u32], code: u8) -> Option<u64> {
+    let mut size = 0;
+    for &value in values {
+        size += match kind(code) {
+            Kind::Fixed(w) if u64::from(value) < 1 << w => u64::from(w),
+            Kind::Fixed(_) => return None,
+            // A chunk and its continuation bit.
+            Kind::Chunked(b) => u64::from(chunk_count(value, b) * (b + 1)),
+            Kind::Refused => return None,
+        };
+    }
+    // The loop says nothing of an empty level.
+    if kind(code) == Kind::Refused {
+        return None;
+    }
+    Some(size)
+}
+
+/// The code byte pack chooses, and its size in bits: "the code with fewest bits before
+/// padding. On a tie a fixed code wins, then the smaller b. A fixed width is the least
+/// that holds the level's largest value".
+pub fn choose(values: &[u32]) -> (u8, u64) {
+    let mut best = None;
+    for code in 0..=255 {
+        let Some(size) = size(values, code) else {
+            continue;
+        };
+        let rank = match kind(code) {
+            // Fixed widths tie on an empty level alone; there too the least wins.
+            Kind::Fixed(w) => (size, 0, w),
+            Kind::Chunked(b) => (size, 1, b),
+            Kind::Refused => unreachable!("a refused code has no size"),
+        };
+        if best.is_none_or(|(least, _)| rank < least) {
+            best = Some((rank, code));
+        }
+    }
+    let ((size, _, _), code) = best.expect("width 32 holds every level");
+    (code, size)
+}
+
+/// "Each number is written highest bit first".
+fn write(bits: &mut Vec<bool>, number: u32, width: u32) {
+    for place in (0..width).rev() {
+        bits.push((number >> place) & 1 == 1);
+    }
+}
+
+/// The level's part, or none where `size` gives none.
+pub fn encode(values: &[u32], code: u8) -> Option<Vec<u8>> {
+    size(values, code)?;
+    let mut bits = Vec::new();
+    match kind(code) {
+        Kind::Fixed(w) => {
+            for &value in values {
+                write(&mut bits, value, w);
+            }
+        }
+        Kind::Chunked(b) => {
+            let counted = values.iter().map(|&value| (value, chunk_count(value, b)));
+            let mut here: Vec<(u32, u32)> = counted.collect();
+            // "Layer 1 holds the first chunks of all values of the level, layer 2 the second
+            // chunks of those that have one, and so on, in node order."
+            for layer in 1.. {
+                here.retain(|&(_, count)| count >= layer);
+                if here.is_empty() {
+                    break;
+                }
+                // "A layer is its continuation bits (1: another chunk follows), then its
+                // chunks." The least significant chunk comes first.
+                for &(_, count) in &here {
+                    bits.push(count > layer);
+                }
+                for &(value, _) in &here {
+                    write(&mut bits, (value >> ((layer - 1) * b)) % (1 << b), b);
+                }
+            }
+        }
+        Kind::Refused => return None,
+    }
+    // "Bits fill bytes from the top, and a level is padded with zero bits to whole bytes."
+    while bits.len() % 8 != 0 {
+        bits.push(false);
+    }
+    Some(bits.chunks(8).map(|byte| number(byte) as u8).collect())
+}
+
+/// The number that these bits are, highest first.
+fn number(bits: &[bool]) -> u64 {
+    bits.iter().fold(0, |sum, &bit| 2 * sum + u64::from(bit))
+}
+
+/// The bits [from, from + length) of the part, or none where they do not lie in it. The
+/// numbers are wide, so that no count or index makes them overflow.
+fn bits(part: &[u8], from: u128, length: u128) -> Option<Vec<bool>> {
+    if from + length > 8 * part.len() as u128 {
+        return None;
+    }
+    let bit = |place: u128| part[(place / 8) as usize] >> (7 - place % 8) & 1 == 1;
+    Some((from..from + length).map(bit).collect())
+}
+
+/// Value `index` of the `count` that the part holds in this code, or none where the
+/// fetch is refused. The index is below the count.
+pub fn fetch(part: &[u8], code: u8, count: usize, index: usize) -> Option<u32> {
+    assert!(index < count);
+    match kind(code) {
+        Kind::Fixed(w) => {
+            let from = index as u128 * u128::from(w);
+            Some(number(&bits(part, from, u128::from(w))?) as u32)
+        }
+        Kind::Chunked(b) => fetch_chunked(part, u128::from(b), count as u128, index as u128),
+        Kind::Refused => None,
+    }
+}
+
+fn fetch_chunked(part: &[u8], b: u128, count: u128, index: u128) -> Option<u32> {
+    let (mut start, mut count, mut index) = (0, count, index);
+    // The value's bits, least significant first, as many as its chunks have.
+    let mut value = Vec::new();
+    loop {
+        let end = start + count + count * b;
+        // "It needs each layer it reads to lie whole in the part."
+        if end > 8 * part.len() as u128 {
+            return None;
+        }
+        let continues = bits(part, start, count)?;
+        let chunk = bits(part, start + count + index * b, b)?;
+        value.extend(chunk.iter().rev());
+        if !continues[index as usize] {
+            break;
+        }
+        let ones = |bits: &[bool]| bits.iter().filter(|&&bit| bit).count() as u128;
+        index = ones(&continues[..index as usize]);
+        count = ones(&continues);
+        start = end;
+    }
+    // Refusal 9: "its value is 2^32 or more (chunks of zeros on top add nothing)".
+    if value.iter().skip(32).any(|&bit| bit) {
+        return None;
+    }
+    value.truncate(32);
+    value.reverse();
+    Some(number(&value) as u32)
+}
