@@ -11,11 +11,14 @@ extern "C" {
     fn level_choose(values: *const u32, values_len: usize) -> u64;
 
     /// Writes the part at the front of `out` and nothing past it, and gives its length in
-    /// bytes. Requires that the code holds the values, room for the part, and fewer than
-    /// 2^32 values.
+    /// bytes. A chunked code works in the first entries of `work`, as many as there are
+    /// values, and leaves them 0. Requires that the code holds the values, room for the
+    /// part, and no fewer entries in `work` than values.
     fn level_encode(
         out: *mut u8,
         out_len: usize,
+        work: *mut u32,
+        work_len: usize,
         values: *const u32,
         values_len: usize,
         code: u8,
@@ -59,11 +62,11 @@ pub fn fetch(part: &[u8], code: u8, count: usize, index: usize) -> Option<u32> {
 }
 
 /// Writes the part at the front of `out` and gives its length in bytes. Panics where the
-/// code does not hold the values or `out` has no room.
-pub fn encode(values: &[u32], code: u8, out: &mut [u8]) -> usize {
+/// code does not hold the values, or `out` or `work` has no room.
+pub fn encode(values: &[u32], code: u8, work: &mut [u32], out: &mut [u8]) -> usize {
     let size = reference::size(values, code).expect("the code holds the values");
     // SAFETY: the size is the level's in this code.
-    unsafe { encode_sized(values, code, size, out) }
+    unsafe { encode_sized(values, code, size, work, out) }
 }
 
 /// As `encode`, for a caller who knows the size: only room is asserted.
@@ -71,14 +74,22 @@ pub fn encode(values: &[u32], code: u8, out: &mut [u8]) -> usize {
 /// # Safety
 /// The code holds the values, and `size` is the level's size in this code, in bits.
 #[inline]
-pub unsafe fn encode_sized(values: &[u32], code: u8, size: u64, out: &mut [u8]) -> usize {
-    assert!((values.len() as u64) < LIMIT);
+pub unsafe fn encode_sized(
+    values: &[u32],
+    code: u8,
+    size: u64,
+    work: &mut [u32],
+    out: &mut [u8],
+) -> usize {
+    assert!(work.len() >= values.len());
     assert!(out.len() as u64 >= size.div_ceil(8));
     // SAFETY: the pointers and lengths are slices'; the rest is asserted or the caller's.
     unsafe {
         level_encode(
             out.as_mut_ptr(),
             out.len(),
+            work.as_mut_ptr(),
+            work.len(),
             values.as_ptr(),
             values.len(),
             code,

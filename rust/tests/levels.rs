@@ -125,6 +125,21 @@ fn check_choose(values: &[u32]) {
     assert_eq!(straightforward::choose(values), expected);
 }
 
+/// Encodes by the proved function, which works in a lent list: a chunked code leaves as many
+/// entries 0 as there are values, and nothing else of the list may change.
+fn proved_encode(values: &[u32], code: u8, out: &mut [u8]) -> usize {
+    let list: Vec<u32> = (0..values.len() as u32 + 5).map(|i| !i).collect();
+    let mut work = list.clone();
+    let length = proved::encode(values, code, &mut work, out);
+    let used = match reference::kind(code) {
+        Kind::Chunked(_) => values.len(),
+        _ => 0,
+    };
+    assert!(work[..used].iter().all(|&entry| entry == 0), "code {code}");
+    assert!(work[used..] == list[used..], "code {code}");
+    length
+}
+
 /// Encodes into buffers of the exact length and longer, and gives the part. Nothing but the
 /// part may change, in the buffer or around it.
 fn check_encode(values: &[u32], code: u8) -> Vec<u8> {
@@ -137,7 +152,7 @@ fn check_encode(values: &[u32], code: u8) -> Vec<u8> {
             .map(|i| pattern ^ (i % 3) as u8)
             .collect();
         let expected = [&memory[..start], &part, &memory[end..]].concat();
-        for encode in [proved::encode, straightforward::encode] {
+        for encode in [proved_encode, straightforward::encode] {
             let mut memory = memory.clone();
             let out = &mut memory[start..end + longer];
             assert_eq!(encode(values, code, out), part.len(), "code {code}");

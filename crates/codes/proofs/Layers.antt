@@ -91,7 +91,7 @@ chunked-step b vs hb h = ap (λ (l : List ℕ). map (more b) vs ++ (fixed b vs +
 
 -- ---- its elements are bits
 
-bits-more : (b : ℕ) (vs : List ℕ) → Bits (map (more b) vs)
+pub bits-more : (b : ℕ) (vs : List ℕ) → Bits (map (more b) vs)
 bits-more b [] = tt
 bits-more b (v ∷ vs) = (go (eqb (v / 2 ^ b) 0), bits-more b vs)
   where

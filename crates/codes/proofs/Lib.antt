@@ -5,8 +5,8 @@ pub mod BitsWritten
 pub mod ChunkCounts
 pub mod CodeByte
 pub mod Fetches
-pub mod Fields
 pub mod Layers
+pub mod LayersWritten
 pub mod Lists
 pub mod Masks
 pub mod Parts

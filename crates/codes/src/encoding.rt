@@ -8,19 +8,12 @@ use super::writing::finish;
 use super::writing::join;
 use super::writing::put;
 ghost use mathlib.Core.Path.{_≡_};
-ghost use mathlib.Core.List.{_++_};
-ghost use Prim.Native.Nat.{_+_, _*_, _/_, _^_, _<_, _≤_};
+ghost use mathlib.Core.List.{_++_, map};
+ghost use Prim.Native.Nat.{_+_, _*_, _<_, _≤_};
 ghost use lib.ListN.{length, take, drop, replicate};
-ghost use Rattle.codes.specs.Bits.{number};
+ghost use Rattle.codes.specs.Bits.{number, fixed};
 ghost use Rattle.codes.specs.Codes.{kindOf, more, rest, chunked, part, Within, Holds, worked};
-ghost use Rattle.codes.specs.Pen.{Wrote, asked, fieldWidth, fieldOf, fields};
-
-// What is written of each value of a layer: its lowest bits, or its continuation bit, which says if it has any bits above
-// the lowest.
-enum Field {
-    Low(usize),
-    More(usize),
-}
+ghost use Rattle.codes.specs.Pen.{Wrote};
 
 fn wide(x: u32) -> u64
     ensures { λ r. ⌜ r ≡ x ⌝ }
@@ -28,89 +21,84 @@ fn wide(x: u32) -> u64
     x as u64
 }
 
-// 1 where another chunk follows the lowest `b` bits of `v`.
+// Writes each value in `w` bits.
+fn put_fixed(out: &mut [u8], pen: Pen, w: usize, values: &[u32]) -> Pen
+    requires { ⌜ (w ≤ 32) × (pen .have < 32) ⌝ }
+    requires { ⌜ pen .at * 8 + pen .have + length (now values) * w ≤ length (now out) * 8 ⌝ }
+    ensures { λ r. ⌜ Wrote (now (out .entry)) pen (now (out .exit)) r (fixed w (now (values .entry))) × (r .have < 32) ⌝ }
+{
+    let mut p = pen;
+    let mut i: usize = 0;
+    while i < values.len() {
+        p = put(out, p, w, low_bits(wide(values[i]), w));
+        i += 1;
+    }
+    p
+}
+
+// The continuation bit of `v`: 1 where another chunk follows its lowest `b` bits.
 fn more_bit(v: u32, b: usize) -> usize
-    requires { ⌜ b < 64 ⌝ }
+    requires { ⌜ b < 32 ⌝ }
     ensures { λ r. ⌜ (r < 2) × (r ≡ more b v) ⌝ }
 {
-    if wide(v) >> b == 0 { 0 } else { 1 }
+    if wide(v) < 1u64 << b { 0 } else { 1 }
 }
 
-fn field_of(v: u32, field: Field) -> u64
-    requires { ⌜ asked field ≤ 32 ⌝ }
-    ensures { λ r. ⌜ (r < 2 ^ fieldWidth field) × (r ≡ fieldOf field v) ⌝ }
+// The number that the continuation bits of `n` values from value `from` on spell.
+fn joined_marks(values: &[u32], from: usize, n: usize, b: usize) -> u64
+    requires { ⌜ (from + n ≤ length (now values)) × (n ≤ 32) × (b < 32) ⌝ }
+    ensures { λ r. ⌜ r ≡ number (map (more b) (take n (drop from (now (values .entry))))) ⌝ }
 {
-    match field {
-        Field::Low(w) => low_bits(wide(v), w),
-        Field::More(b) => more_bit(v, b) as u64,
-    }
-}
-
-fn width_of(field: Field) -> usize
-    ensures { λ r. ⌜ r ≡ fieldWidth field ⌝ }
-{
-    match field {
-        Field::Low(w) => w,
-        Field::More(_) => 1,
-    }
-}
-
-// The number that the fields of `n` values from value `from` on spell.
-fn joined_fields(values: &[u32], from: usize, n: usize, field: Field) -> u64
-    requires { ⌜ (from + n ≤ length (now values)) × (n * fieldWidth field ≤ 32) × (asked field ≤ 32) ⌝ }
-    ensures { λ r. ⌜ r ≡ number (fields field (take n (drop from (now (values .entry))))) ⌝ }
-{
-    let w = width_of(field);
     let mut acc: u64 = 0;
     let mut i: usize = 0;
     while i < n {
-        acc = join(acc, w, field_of(values[from + i], field));
+        acc = join(acc, 1, more_bit(values[from + i], b) as u64);
         i += 1;
     }
     acc
 }
 
-// How many fields of `w` bits go into 32 bits; of no bits any number does.
-fn per_word(w: usize) -> usize
-    requires { ⌜ w ≤ 32 ⌝ }
-    ensures { λ r. ⌜ (1 ≤ r) × (r * w ≤ 32) ⌝ }
+// Writes the continuation bits of the first `n` values, 32 at a time.
+fn put_marks(out: &mut [u8], pen: Pen, b: usize, values: &[u32], n: usize) -> Pen
+    requires { ⌜ (b < 32) × (pen .have < 32) × (n ≤ length (now values)) ⌝ }
+    requires { ⌜ pen .at * 8 + pen .have + n ≤ length (now out) * 8 ⌝ }
+    ensures { λ r. ⌜ Wrote (now (out .entry)) pen (now (out .exit)) r (map (more b) (take n (now (values .entry)))) × (r .have < 32) ⌝ }
 {
-    if w == 0 { 32 } else { 32 / w }
-}
-
-// Writes the fields of the first `n` values.
-fn put_fields(out: &mut [u8], pen: Pen, field: Field, values: &[u32], n: usize) -> Pen
-    requires { ⌜ (asked field ≤ 32) × (pen .have < 32) × (n ≤ length (now values)) ⌝ }
-    requires { ⌜ pen .at * 8 + pen .have + n * fieldWidth field ≤ length (now out) * 8 ⌝ }
-    ensures { λ r. ⌜ Wrote (now (out .entry)) pen (now (out .exit)) r (fields field (take n (now (values .entry)))) × (r .have < 32) ⌝ }
-{
-    let w = width_of(field);
-    let group = per_word(w);
     let mut p = pen;
     let mut i: usize = 0;
     while i < n {
-        let k = least(n - i, group);
-        p = put(out, p, k * w, joined_fields(values, i, k, field));
+        let k = least(n - i, 32);
+        p = put(out, p, k, joined_marks(values, i, k, b));
         i += k;
     }
     p
 }
 
-// Leaves at the front of `values` what its first `n` have above their lowest `b` bits, and gives how many have anything there.
-fn keep_rest(values: &mut [u32], n: usize, b: usize) -> usize
-    requires { ⌜ (b < 32) × (n ≤ length (now values)) ⌝ }
-    ensures { λ r. ⌜ (r ≤ n) × (take r (now (values .exit)) ≡ rest b (take n (now (values .entry))))
+// A pen, and how many values go on in the next layer.
+struct Chunks {
+    pen: Pen,
+    left: usize,
+}
+
+// Writes the lowest chunks of the first `n` values, and leaves what these have above at the front, where they have anything.
+fn put_chunks(out: &mut [u8], pen: Pen, b: usize, values: &mut [u32], n: usize) -> Chunks
+    requires { ⌜ (b < 32) × (pen .have < 32) × (n ≤ length (now values)) ⌝ }
+    requires { ⌜ pen .at * 8 + pen .have + n * b ≤ length (now out) * 8 ⌝ }
+    ensures { λ r. ⌜ Wrote (now (out .entry)) pen (now (out .exit)) (r .pen) (fixed b (take n (now (values .entry)))) × (r .pen .have < 32)
+        × (r .left ≤ n) × (take (r .left) (now (values .exit)) ≡ rest b (take n (now (values .entry))))
         × (drop n (now (values .exit)) ≡ drop n (now (values .entry))) ⌝ }
 {
-    let mut kept: usize = 0;
+    let mut p = pen;
+    let mut left: usize = 0;
     let mut i: usize = 0;
     while i < n {
         let v = values[i];
-        values[kept] = v >> b;
-        kept += more_bit(v, b);
+        p = put(out, p, b, low_bits(wide(v), b));
+        values[left] = v >> b;
+        left += more_bit(v, b);
         i += 1;
     }
-    kept
+    Chunks { pen: p, left: left }
 }
 
 // Writes the layers of the first `n` values, as long as a value goes on, and uses these values up.
@@ -123,9 +111,10 @@ fn put_layers(out: &mut [u8], pen: Pen, b: usize, values: &mut [u32], n: usize) 
     let mut p = pen;
     let mut left = n;
     while left > 0 {
-        p = put_fields(out, p, Field::More(b), values, left);
-        p = put_fields(out, p, Field::Low(b), values, left);
-        left = keep_rest(values, left, b);
+        p = put_marks(out, p, b, values, left);
+        let chunks = put_chunks(out, p, b, values, left);
+        p = chunks.pen;
+        left = chunks.left;
     }
     p
 }
@@ -170,7 +159,7 @@ pub fn encode(out: &mut [u8], work: &mut [u32], values: &[u32], code: u8) -> usi
     let kind = kind_of(code);
     match kind {
         Kind::Fixed(w) => {
-            let p = put_fields(out, start, Field::Low(w), values, n);
+            let p = put_fixed(out, start, w, values);
             finish(out, p)
         }
         Kind::Chunked(b) => {

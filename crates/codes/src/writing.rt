@@ -37,10 +37,11 @@ fn flush(out: &mut [u8], pen: Pen) -> Pen
 {
     let at = pen.at;
     let have = pen.have - 32;
-    out[at] = byte_above(pen.acc, have + 24);
-    out[at + 1] = byte_above(pen.acc, have + 16);
-    out[at + 2] = byte_above(pen.acc, have + 8);
-    out[at + 3] = byte_above(pen.acc, have);
+    let first = pen.acc >> have;
+    out[at] = byte_above(first, 24);
+    out[at + 1] = byte_above(first, 16);
+    out[at + 2] = byte_above(first, 8);
+    out[at + 3] = byte_above(first, 0);
     Pen {
         at: at + 4,
         have: have,

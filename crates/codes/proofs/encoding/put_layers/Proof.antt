@@ -5,13 +5,12 @@ use mathlib.Core.List.{List, [], _++_, append-nil}
 use Prim.Native.Nat.{ℕ, _+_, _≤_, _<_}
 use lib.ListN.{length, take, drop}
 use lib.Seq.{length-take-le}
-use Rattle.codes.specs.declared.encoding.Field.the-variants.{More}
 use Rattle.codes.specs.Bits.{sum}
 use Rattle.codes.specs.Codes.{rest, chunked, Within}
 use Rattle.codes.specs.Pen.{Wrote}
 use Rattle.codes.proofs.BitsWritten.{wrote-nothing, wrote-both}
-use Rattle.codes.proofs.Fields.{length-fields, rest-sum, layer-room, layer-next}
 use Rattle.codes.proofs.Layers.{layers-nil, within-rest, within-more}
+use Rattle.codes.proofs.LayersWritten.{length-marks, rest-sum, layer-room, layer-next}
 use Rattle.codes.proofs.Lists.{drop-later}
 use Rattle.codes.proofs.encoding.put_layers.Statement.{statement}
 use Rattle.codes.proofs.encoding.put_layers.Tie as tie
@@ -29,57 +28,54 @@ loop-holds c =
     let a = c .before .before .args in
     (omega arith, refl, refl, c .before .before .pre .0 .4, omega arith, ([], wrote-nothing (a .out .now) (a .pen), refl))
 
-put-fields-requires : tie.Need-put-fields-requires Inv-loop μ-loop
-put-fields-requires c κs =
+put-marks-requires : tie.Need-put-marks-requires Inv-loop μ-loop
+put-marks-requires c κs =
     let l = c .before .before .before .loop in
     let b = c .before .before .before .before .before .before .args .b in
     let w = l .inv .5 .1 in
     omega (arith, layer-room b (l .left) (l .values) (l .inv .5 .0) _ (omega arith) (omega arith) (l .inv .3) (l .inv .5 .2))
 
-put-fields-requires-2 : tie.Need-put-fields-requires-2 Inv-loop μ-loop
-put-fields-requires-2 c κs =
+put-chunks-requires : tie.Need-put-chunks-requires Inv-loop μ-loop
+put-chunks-requires c κs =
     let m = c .before .before .before .before in
     let l = m .before .before .before .before .loop in
     let b = m .before .before .before .before .before .before .before .args .b in
     let w = l .inv .5 .1 in
-    let u = m .put-fields .ensures .0 in
-    omega (arith, layer-room b (l .left) (l .values) (l .inv .5 .0) _ (omega arith) (omega arith) (l .inv .3) (l .inv .5 .2), length-fields (More b) (l .values) (l .left) (omega arith))
-
-keep-rest-requires : tie.Need-keep-rest-requires Inv-loop μ-loop
-keep-rest-requires c κs = omega arith
+    let u = m .put-marks .ensures .0 in
+    omega (arith, layer-room b (l .left) (l .values) (l .inv .5 .0) _ (omega arith) (omega arith) (l .inv .3) (l .inv .5 .2), length-marks b (l .values) (l .left) (omega arith))
 
 loop-less : tie.Need-loop-less Inv-loop μ-loop
 loop-less c =
-    let k = c .before .before .keep-rest in
-    let w = c .before .before .before .before .before .before .before .before .before .before .before .before .before .before in
+    let k = c .before .before .before .before .before .put-chunks in
+    let w = c .before .before .before .before .before .before .before .before .before .before .before .before .before in
     let l = w .before .loop in
     let s = w .before .before .before .before in
     let us = take (l .left) (l .values) in
-    let vs = take (k .result) (k .last .0) in
-    let n : length vs ≡ k .result = length-take-le (k .result) (k .last .0) (omega (arith, s .pre .0 .3)) in
-    let r : length vs + sum vs ≤ sum us = rw (k .ensures .1) (rest-sum (s .args .b) us (s .pre .0 .0)) in
+    let vs = take (k .result .left) (k .last .1 .1 .1 .0) in
+    let n : length vs ≡ k .result .left = length-take-le (k .result .left) (k .last .1 .1 .1 .0) (omega (arith, s .pre .0 .3)) in
+    let r : length vs + sum vs ≤ sum us = rw (k .ensures .3) (rest-sum (s .args .b) us (s .pre .0 .0)) in
     omega (arith, w .loop-test .taken)
 
 loop-again : tie.Need-loop-again Inv-loop μ-loop
 loop-again c =
-    let k = c .before .before .keep-rest in
-    let v = c .before .before .before .before .before .before in
+    let v = c .before .before .before .before .before in
     let m = v .before .before .before .before .before in
     let w = m .before .before .before .before in
+    let k = v .put-chunks in
     let l = w .loop in
     let a = w .before .before .before .args in
     let g = w .before .before .before .pre .0 in
     let us = take (l .left) (l .values) in
-    let vs = k .last .0 in (
+    let vs = k .last .1 .1 .1 .0 in (
       omega arith,
       omega arith,
-      drop-later vs (l .values) (l .left) (k .ensures .2) (a .n) (omega arith) ∙ l .inv .2,
-      rw (k .ensures .1) (within-more 31 32 (rest (a .b) us) (omega arith) (within-rest (a .b) 31 us (g .0) (l .inv .3))),
-      v .put-fields2 .ensures .1,
+      drop-later vs (l .values) (l .left) (k .ensures .4) (a .n) (omega arith) ∙ l .inv .2,
+      rw (k .ensures .3) (within-more 31 32 (rest (a .b) us) (omega arith) (within-rest (a .b) 31 us (g .0) (l .inv .3))),
+      k .ensures .1,
       (
         _,
-        wrote-both (wrote-both (l .inv .5 .1) (m .put-fields .ensures .0)) (v .put-fields2 .ensures .0),
-        layer-next (a .b) us (take (k .result) vs) (l .inv .5 .0) _ (g .0) (l .inv .3) (l .inv .5 .2) (k .ensures .1),
+        wrote-both (wrote-both (l .inv .5 .1) (m .put-marks .ensures .0)) (k .ensures .0),
+        layer-next (a .b) us (take (k .result .left) vs) (l .inv .5 .0) _ (g .0) (l .inv .3) (l .inv .5 .2) (k .ensures .3),
       ),
     )
 
@@ -103,9 +99,8 @@ put-layers-spec =
     Inv-loop
     μ-loop
     loop-holds
-    put-fields-requires
-    put-fields-requires-2
-    keep-rest-requires
+    put-marks-requires
+    put-chunks-requires
     loop-less
     loop-again
     same-length

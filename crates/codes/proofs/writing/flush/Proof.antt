@@ -1,8 +1,10 @@
 -- `flush` meets its contract: four bytes, one after the other.
 use native.Mathlib.Omega.{arith}
-use mathlib.Core.Path.{refl}
-use Prim.Native.Nat.{_+_, _-_}
+use mathlib.Core.Path.{refl, _∙_}
+use Prim.Native.Nat.{_+_, _-_, _/_, _^_}
+use native.Mathlib.Nat.{div-one}
 use lib.ListN.{set, length-set}
+use lib.Pow.{shr-shr}
 use Rattle.codes.proofs.BitsWritten.{wrote-both, wrote-byte}
 use borrow.Author.Needs.{needs}
 use Rattle.codes.proofs.writing.flush.Statement.{statement}
@@ -11,17 +13,14 @@ use Rattle.codes.proofs.writing.flush.Tie as tie
 sub-have : tie.Need-sub-have
 sub-have c = search needs
 
-add-byte-above : tie.Need-add-byte-above
-add-byte-above c = search needs
+shr-first : tie.Need-shr-first
+shr-first c = search needs
 
 byte-above-requires : tie.Need-byte-above-requires
 byte-above-requires c κs = search needs
 
 slice-write-out : tie.Need-slice-write-out
 slice-write-out c = search needs
-
-add-byte-above-2 : tie.Need-add-byte-above-2
-add-byte-above-2 c = search needs
 
 byte-above-requires-2 : tie.Need-byte-above-requires-2
 byte-above-requires-2 c κs = search needs
@@ -31,9 +30,6 @@ add-out c = search needs
 
 slice-write-out-2 : tie.Need-slice-write-out-2
 slice-write-out-2 c = simp length-set (omega arith)
-
-add-byte-above-3 : tie.Need-add-byte-above-3
-add-byte-above-3 c = search needs
 
 byte-above-requires-3 : tie.Need-byte-above-requires-3
 byte-above-requires-3 c κs = search needs
@@ -53,15 +49,15 @@ add-out-3 c = search needs
 slice-write-out-4 : tie.Need-slice-write-out-4
 slice-write-out-4 c = simp length-set (omega arith)
 
-add-t8 : tie.Need-add-t8
-add-t8 c = search needs
+add-t9 : tie.Need-add-t9
+add-t9 c = search needs
 
 same-length : tie.Need-same-length
 same-length c = search needs
 
 returns : tie.Need-returns
 returns c =
-    let a = c .before .before .before .before .before .before .args in
+    let a = c .before .before .before .before .before .before .before .args in
     let at = a .pen .at in
     let h = a .pen .have - 32 in
     let o = a .out .now in
@@ -75,10 +71,10 @@ returns c =
       wrote-both
           (wrote-both
           (wrote-both
-          (wrote-byte o at (at + 1) (a .pen .have) (h + 24) (a .pen .acc) (b₁ .result) (omega arith) refl (omega arith) (b₁ .ensures))
-          (wrote-byte o₁ (at + 1) (at + 2) (h + 24) (h + 16) (a .pen .acc) (b₂ .result) (simp length-set (omega arith)) (omega arith) (omega arith) (b₂ .ensures)))
-          (wrote-byte o₂ (at + 2) (at + 3) (h + 16) (h + 8) (a .pen .acc) (b₃ .result) (simp length-set (omega arith)) (omega arith) (omega arith) (b₃ .ensures)))
-          (wrote-byte o₃ (at + 3) (at + 4) (h + 8) h (a .pen .acc) (b₄ .result) (simp length-set (omega arith)) (omega arith) (omega arith) (b₄ .ensures)),
+          (wrote-byte o at (at + 1) (a .pen .have) (h + 24) (a .pen .acc) (b₁ .result) (omega arith) refl (omega arith) (b₁ .ensures ∙ rw (shr-shr (a .pen .acc) h 24)))
+          (wrote-byte o₁ (at + 1) (at + 2) (h + 24) (h + 16) (a .pen .acc) (b₂ .result) (simp length-set (omega arith)) (omega arith) (omega arith) (b₂ .ensures ∙ rw (shr-shr (a .pen .acc) h 16))))
+          (wrote-byte o₂ (at + 2) (at + 3) (h + 16) (h + 8) (a .pen .acc) (b₃ .result) (simp length-set (omega arith)) (omega arith) (omega arith) (b₃ .ensures ∙ rw (shr-shr (a .pen .acc) h 8))))
+          (wrote-byte o₃ (at + 3) (at + 4) (h + 8) h (a .pen .acc) (b₄ .result) (simp length-set (omega arith)) (omega arith) (omega arith) (b₄ .ensures ∙ rw (div-one (a .pen .acc / 2 ^ h)))),
       omega arith,
     )
 
@@ -87,20 +83,18 @@ flush-spec =
     tie.close
     (tie.spec
     sub-have
-    add-byte-above
+    shr-first
     byte-above-requires
     slice-write-out
-    add-byte-above-2
     byte-above-requires-2
     add-out
     slice-write-out-2
-    add-byte-above-3
     byte-above-requires-3
     add-out-2
     slice-write-out-3
     byte-above-requires-4
     add-out-3
     slice-write-out-4
-    add-t8
+    add-t9
     same-length
     returns)

@@ -1,0 +1,99 @@
+-- One layer of the chunked code as it is written: its continuation bits, its chunks, and what is left of the values after it.
+use mathlib.Core.Path.{_≡_, refl}
+use mathlib.Core.Bool.{Bool, true, false, cond}
+use mathlib.Core.List.{List, [], _∷_, _++_, map, map-append, append-assoc, append-nil}
+use Prim.Native.Nat.{ℕ, _+_, _*_, _/_, _%_, _^_, _≤_, _<_}
+use native.Mathlib.Nat.{add-zero, le-refl, le-trans, lt-of-lt-of-le, mod-eq-of-lt, mul-le-mul-left, div-mul-le-self}
+use native.Mathlib.Numerals.{add-one}
+use native.Mathlib.Omega.{arith}
+use lib.Dec.{eqb}
+use lib.ListN.{length, take, drop, set, getD, length-append, length-map}
+use lib.Seq.{take-suc, take-add, length-take-le, take-set-le, take-suc-set}
+use lib.Pow.{pow-mono}
+use borrow.Author.Tests.{eqb-false}
+use Rattle.codes.specs.Bits.{bits, number, sum, fixed}
+use Rattle.codes.specs.Codes.{more, rest, chunked, Within}
+use Rattle.codes.proofs.Bits.{bits-number, length-fixed, number-append, number-lt, fixed-append}
+use Rattle.codes.proofs.Layers.{bits-more, rest-append, chunked-step}
+
+-- ---- continuation bits
+
+-- those of the first i values
+abbrev pub marks : ℕ → List ℕ → ℕ → List ℕ
+marks b vs i = map (more b) (take i vs)
+
+module _ (b : ℕ) (vs : List ℕ) (i : ℕ) (h : i ≤ length vs) where
+  pub length-marks : length (marks b vs i) ≡ i
+  length-marks = rw (length-map (take i vs) (more b), length-take-le i vs h)
+
+  pub number-marks-lt : number (marks b vs i) < 2 ^ i
+  number-marks-lt = rw length-marks at (number-lt (marks b vs i) (bits-more b (take i vs)))
+
+  pub bits-marks : bits i (number (marks b vs i)) ≡ marks b vs i
+  bits-marks = rw length-marks at (bits-number (marks b vs i) (bits-more b (take i vs)))
+
+pub marks-add : (b : ℕ) (vs : List ℕ) (i k : ℕ) → marks b vs (i + k) ≡ marks b vs i ++ marks b (drop i vs) k
+marks-add b vs i k = rw (take-add i k vs) (map-append (more b) (take i vs) (take k (drop i vs)))
+
+-- one bit more, joined to the number of those before it in a word that has room
+pub number-marks-suc : (b : ℕ) (vs : List ℕ) (i m : ℕ) → i < length vs → i ≤ m
+    → number (marks b vs i) % 2 ^ m * 2 ^ 1 + more b (getD vs i 0) ≡ number (marks b vs (i + 1))
+unfolding number
+number-marks-suc b vs i m h l =
+    let s : number (marks b vs i) % 2 ^ m ≡ number (marks b vs i) = mod-eq-of-lt (lt-of-lt-of-le (number-marks-lt b vs i (omega arith)) (pow-mono l)) in
+    rw (s, add-one i, take-suc vs i 0 h, map-append (more b) (take i vs) (getD vs i 0 ∷ []), number-append (marks b vs i) (more b (getD vs i 0) ∷ [])) (omega arith)
+
+-- ---- chunks
+
+-- one value more in w bits
+pub fixed-suc : (w : ℕ) (vs : List ℕ) (i : ℕ) → i < length vs → fixed w (take (i + 1) vs) ≡ fixed w (take i vs) ++ bits w (getD vs i 0)
+unfolding fixed
+fixed-suc w vs i h =
+    rw (add-one i, take-suc vs i 0 h, fixed-append w (take i vs) (getD vs i 0 ∷ []), append-nil (bits w (getD vs i 0)))
+
+pub length-fixed-take : (w : ℕ) (vs : List ℕ) (i : ℕ) → i ≤ length vs → length (fixed w (take i vs)) ≡ i * w
+length-fixed-take w vs i h = rw (length-fixed w (take i vs), length-take-le i vs h)
+
+-- ---- what is left
+
+-- value i of ws, stored after what is left of those before it, and counted where it goes on
+pub rest-suc : (b k i : ℕ) (vs ws : List ℕ) → k < length vs → i < length ws → take k vs ≡ rest b (take i ws)
+    → take (k + more b (getD ws i 0)) (set vs k (getD ws i 0 / 2 ^ b)) ≡ rest b (take (i + 1) ws)
+unfolding rest
+rest-suc b k i vs ws l h e =
+    rw (add-one i, take-suc ws i 0 h, rest-append b (take i ws) (getD ws i 0 ∷ []), ← e) (go (eqb q 0))
+  where
+    q : ℕ
+    q = getD ws i 0 / 2 ^ b
+
+    go : (t : Bool) → take (k + cond t 0 1) (set vs k q) ≡ take k vs ++ cond t [] (q ∷ [])
+    go true = rw (add-zero k, take-set-le k vs k q (le-refl k), append-nil (take k vs))
+    go false = rw (add-one k, take-suc-set vs k q l)
+
+-- the number of values left, and their sum, are together at most the sum of the values
+pub rest-sum : (b : ℕ) (vs : List ℕ) → 1 ≤ b → length (rest b vs) + sum (rest b vs) ≤ sum vs
+unfolding rest sum
+rest-sum b [] h = omega arith
+rest-sum b (v ∷ vs) h = go (eqb (v / 2 ^ b) 0) refl (rest-sum b vs h)
+  where
+    half : v / 2 ^ b * 2 ≤ v
+    half = le-trans (mul-le-mul-left (v / 2 ^ b) (pow-mono {i = 1} {j = b} h)) (div-mul-le-self v (2 ^ b))
+
+    go : (t : Bool) → eqb (v / 2 ^ b) 0 ≡ t → length (rest b vs) + sum (rest b vs) ≤ sum vs
+        → length (cond t (rest b vs) (v / 2 ^ b ∷ rest b vs)) + sum (cond t (rest b vs) (v / 2 ^ b ∷ rest b vs)) ≤ v + sum vs
+    go true e k = omega arith
+    go false e k = let z = eqb-false (v / 2 ^ b) 0 e in omega (arith, half)
+
+-- ---- the layers
+
+-- the whole code has room for the first layer of the m values that are left
+pub layer-room : (b m : ℕ) (vs bs total : List ℕ) → 1 ≤ b → m ≤ length vs → Within 32 (take m vs) → bs ++ chunked b (take m vs) ≡ total
+    → length bs + (m + m * b) ≤ length total
+layer-room b m vs bs total hb l h e =
+    rw (← e, chunked-step b (take m vs) hb h)
+    (simp (length-append, length-map, length-fixed, length-take-le m vs l) (omega arith))
+
+-- and with that layer written, the code of what is left remains
+pub layer-next : (b : ℕ) (vs r bs total : List ℕ) → 1 ≤ b → Within 32 vs → bs ++ chunked b vs ≡ total → r ≡ rest b vs
+    → ((bs ++ map (more b) vs) ++ fixed b vs) ++ chunked b r ≡ total
+layer-next b vs r bs total hb h e q = rw q (simp append-assoc (rw (chunked-step b vs hb h) at e))
