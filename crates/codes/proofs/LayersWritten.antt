@@ -1,9 +1,9 @@
 -- One layer of the chunked code as it is written: its continuation bits, its chunks, and what is left of the values after it.
-use mathlib.Core.Path.{_≡_, refl}
+use mathlib.Core.Path.{_≡_, refl, sym}
 use mathlib.Core.Bool.{Bool, true, false, cond}
 use mathlib.Core.List.{List, [], _∷_, _++_, map, map-append, append-assoc, append-nil}
 use Prim.Native.Nat.{ℕ, _+_, _*_, _/_, _%_, _^_, _≤_, _<_}
-use native.Mathlib.Nat.{add-zero, le-refl, le-trans, lt-of-lt-of-le, mod-eq-of-lt, mul-le-mul-left, div-mul-le-self}
+use native.Mathlib.Nat.{add-zero, le-refl, le-trans, mul-le-mul-left, div-mul-le-self}
 use native.Mathlib.Numerals.{add-one}
 use native.Mathlib.Omega.{arith}
 use lib.Dec.{eqb}
@@ -13,7 +13,7 @@ use lib.Pow.{pow-mono}
 use borrow.Author.Tests.{eqb-false}
 use Rattle.codes.specs.Bits.{bits, number, sum, fixed}
 use Rattle.codes.specs.Codes.{more, rest, chunked, Within}
-use Rattle.codes.proofs.Bits.{bits-number, length-fixed, number-append, number-lt, fixed-append}
+use Rattle.codes.proofs.Bits.{bits-fixed, bits-number, length-bits, length-fixed, number-append, number-bits, number-lt, fixed-append}
 use Rattle.codes.proofs.Layers.{bits-more, rest-append, chunked-step}
 
 -- ---- continuation bits
@@ -35,13 +35,11 @@ module _ (b : ℕ) (vs : List ℕ) (i : ℕ) (h : i ≤ length vs) where
 pub marks-add : (b : ℕ) (vs : List ℕ) (i k : ℕ) → marks b vs (i + k) ≡ marks b vs i ++ marks b (drop i vs) k
 marks-add b vs i k = rw (take-add i k vs) (map-append (more b) (take i vs) (take k (drop i vs)))
 
--- one bit more, joined to the number of those before it in a word that has room
-pub number-marks-suc : (b : ℕ) (vs : List ℕ) (i m : ℕ) → i < length vs → i ≤ m
-    → number (marks b vs i) % 2 ^ m * 2 ^ 1 + more b (getD vs i 0) ≡ number (marks b vs (i + 1))
+-- one bit more
+pub number-marks-suc : (b : ℕ) (vs : List ℕ) (i : ℕ) → i < length vs → number (marks b vs i) * 2 + more b (getD vs i 0) ≡ number (marks b vs (i + 1))
 unfolding number
-number-marks-suc b vs i m h l =
-    let s : number (marks b vs i) % 2 ^ m ≡ number (marks b vs i) = mod-eq-of-lt (lt-of-lt-of-le (number-marks-lt b vs i (omega arith)) (pow-mono l)) in
-    rw (s, add-one i, take-suc vs i 0 h, map-append (more b) (take i vs) (getD vs i 0 ∷ []), number-append (marks b vs i) (more b (getD vs i 0) ∷ [])) (omega arith)
+number-marks-suc b vs i h =
+    rw (add-one i, take-suc vs i 0 h, map-append (more b) (take i vs) (getD vs i 0 ∷ []), number-append (marks b vs i) (more b (getD vs i 0) ∷ [])) (omega arith)
 
 -- ---- chunks
 
@@ -51,17 +49,36 @@ unfolding fixed
 fixed-suc w vs i h =
     rw (add-one i, take-suc vs i 0 h, fixed-append w (take i vs) (getD vs i 0 ∷ []), append-nil (bits w (getD vs i 0)))
 
-pub length-fixed-take : (w : ℕ) (vs : List ℕ) (i : ℕ) → i ≤ length vs → length (fixed w (take i vs)) ≡ i * w
-length-fixed-take w vs i h = rw (length-fixed w (take i vs), length-take-le i vs h)
+pub fixed-add : (w : ℕ) (vs : List ℕ) (i k : ℕ) → fixed w (take (i + k) vs) ≡ fixed w (take i vs) ++ fixed w (take k (drop i vs))
+fixed-add w vs i k = rw (take-add i k vs) (fixed-append w (take i vs) (take k (drop i vs)))
+
+module _ (w : ℕ) (vs : List ℕ) (i : ℕ) (h : i ≤ length vs) where
+  pub length-fixed-take : length (fixed w (take i vs)) ≡ i * w
+  length-fixed-take = rw (length-fixed w (take i vs), length-take-le i vs h)
+
+  pub number-fixed-lt : number (fixed w (take i vs)) < 2 ^ (i * w)
+  number-fixed-lt = rw length-fixed-take at (number-lt (fixed w (take i vs)) (bits-fixed w (take i vs)))
+
+  pub bits-fixed-take : bits (i * w) (number (fixed w (take i vs))) ≡ fixed w (take i vs)
+  bits-fixed-take = rw length-fixed-take at (bits-number (fixed w (take i vs)) (bits-fixed w (take i vs)))
+
+pub number-fixed-suc : (w : ℕ) (vs : List ℕ) (i : ℕ) → i < length vs
+    → number (fixed w (take i vs)) * 2 ^ w + getD vs i 0 % 2 ^ w ≡ number (fixed w (take (i + 1) vs))
+number-fixed-suc w vs i h =
+    let x = getD vs i 0 in
+    sym (rw (fixed-suc w vs i h, number-append (fixed w (take i vs)) (bits w x), length-bits w x, number-bits w x))
 
 -- ---- what is left
 
+pub rest-add : (b : ℕ) (vs : List ℕ) (i k : ℕ) → rest b (take (i + k) vs) ≡ rest b (take i vs) ++ rest b (take k (drop i vs))
+rest-add b vs i k = rw (take-add i k vs) (rest-append b (take i vs) (take k (drop i vs)))
+
 -- value i of ws, stored after what is left of those before it, and counted where it goes on
-pub rest-suc : (b k i : ℕ) (vs ws : List ℕ) → k < length vs → i < length ws → take k vs ≡ rest b (take i ws)
-    → take (k + more b (getD ws i 0)) (set vs k (getD ws i 0 / 2 ^ b)) ≡ rest b (take (i + 1) ws)
+pub rest-suc : (b k i : ℕ) (vs ws front : List ℕ) → k < length vs → i < length ws → take k vs ≡ front ++ rest b (take i ws)
+    → take (k + more b (getD ws i 0)) (set vs k (getD ws i 0 / 2 ^ b)) ≡ front ++ rest b (take (i + 1) ws)
 unfolding rest
-rest-suc b k i vs ws l h e =
-    rw (add-one i, take-suc ws i 0 h, rest-append b (take i ws) (getD ws i 0 ∷ []), ← e) (go (eqb q 0))
+rest-suc b k i vs ws front l h e =
+    rw (add-one i, take-suc ws i 0 h, rest-append b (take i ws) (getD ws i 0 ∷ []), ← (append-assoc front (rest b (take i ws)) (rest b (getD ws i 0 ∷ []))), ← e) (go (eqb q 0))
   where
     q : ℕ
     q = getD ws i 0 / 2 ^ b

@@ -1,23 +1,27 @@
 -- `joined_marks` meets its contract.
 use native.Mathlib.Omega.{arith}
-use mathlib.Core.Path.{_≡_, refl, _∙_}
-use Prim.Native.Nat.{_-_, _≤_}
+use mathlib.Core.Path.{_≡_, refl}
+use Prim.Native.Nat.{_+_, _-_, _^_, _≤_, _<_}
 use lib.ListN.{drop, length-drop}
+use lib.Pow.{pow-mono}
 use lib.Seq.{getD-drop}
 use Rattle.codes.specs.Bits.{number}
-use Rattle.codes.proofs.LayersWritten.{marks, number-marks-suc}
+use Rattle.codes.proofs.LayersWritten.{marks, number-marks-lt, number-marks-suc}
 use Rattle.codes.proofs.encoding.joined_marks.Statement.{statement}
 use Rattle.codes.proofs.encoding.joined_marks.Tie as tie
 
 abbrev Inv-loop : tie.InvT-loop
-Inv-loop values from n b acc₀ i₀ acc i = (i ≤ n) × (acc ≡ number (marks b (drop from values) i))
+Inv-loop values from n radix joined₀ i₀ joined i = (i ≤ n) × (joined ≡ number (marks (radix .bits) (drop from values) i)) × (joined < 2 ^ 32)
 
 abbrev μ-loop : tie.MeasureT-loop
-μ-loop values from n b acc₀ i₀ acc i = n - i
+μ-loop values from n radix joined₀ i₀ joined i = n - i
 
 loop-holds : tie.Need-loop-holds Inv-loop μ-loop
 unfolding number
-loop-holds c = (omega arith, refl)
+loop-holds c = (omega arith, refl, omega arith)
+
+mul-joined : tie.Need-mul-joined Inv-loop μ-loop
+mul-joined c = omega arith
 
 add-more-bit : tie.Need-add-more-bit Inv-loop μ-loop
 add-more-bit c = omega arith
@@ -31,8 +35,8 @@ shared-slice-read-more-bit c = omega arith
 more-bit-requires : tie.Need-more-bit-requires Inv-loop μ-loop
 more-bit-requires c κs = omega arith
 
-join-requires : tie.Need-join-requires Inv-loop μ-loop
-join-requires c κs = omega arith
+add-joined : tie.Need-add-joined Inv-loop μ-loop
+add-joined c = omega arith
 
 add-i : tie.Need-add-i Inv-loop μ-loop
 add-i c = omega arith
@@ -42,14 +46,13 @@ loop-less c = omega arith
 
 loop-again : tie.Need-loop-again Inv-loop μ-loop
 loop-again c =
-    let l = c .before .before .before .before .loop in
-    let a = c .before .before .before .before .before .before .args in
-    let m = c .before .more-bit in
-    let g = getD-drop (a .from) (a .values .now) (l .i) 0 in (
-      omega arith,
-      c .join .ensures
-          ∙ rw (l .inv .1, m .ensures .1, ← g) (number-marks-suc (a .b) (drop (a .from) (a .values .now)) (l .i) 63 (simp length-drop (omega arith)) (omega arith)),
-    )
+    let l = c .before .before .before .loop in
+    let a = c .before .before .before .before .before .args in
+    let vs = drop (a .from) (a .values .now) in
+    let g = getD-drop (a .from) (a .values .now) (l .i) 0 in
+    let e = rw g at (number-marks-suc (a .radix .bits) vs (l .i) (simp length-drop (omega arith))) in
+    let lt = number-marks-lt (a .radix .bits) vs (l .i + 1) (simp length-drop (omega arith)) in
+    (omega arith, omega (arith, e), omega (arith, e, pow-mono {i = l .i + 1} {j = 32} (omega arith)))
 
 returns : tie.Need-returns Inv-loop μ-loop
 returns c =
@@ -63,11 +66,12 @@ joined-marks-spec =
     Inv-loop
     μ-loop
     loop-holds
+    mul-joined
     add-more-bit
     mul-more-bit
     shared-slice-read-more-bit
     more-bit-requires
-    join-requires
+    add-joined
     add-i
     loop-less
     loop-again

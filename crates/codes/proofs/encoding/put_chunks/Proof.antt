@@ -1,27 +1,35 @@
 -- `put_chunks` meets its contract.
 use native.Mathlib.Omega.{arith}
-use mathlib.Core.Path.{_≡_, refl, _∙_}
-use Prim.Native.Nat.{_+_, _-_, _/_, _^_, _≤_, _<_}
-use native.Mathlib.Nat.{mul-le-mul-right}
-use lib.ListN.{length, take, drop, getD, length-set}
-use lib.Seq.{drop-set-lt}
+use mathlib.Core.Path.{_≡_, refl, sym, _∙_}
+use Prim.Native.Nat.{ℕ, _+_, _-_, _*_, _/_, _≤_, _<_}
+use native.Mathlib.Nat.{le-trans, mul-le-mul-right, add-mul, div-mul-le-self, le-div-iff-mul-le}
+use lib.ListN.{length, take, drop, length-drop}
 use Rattle.codes.specs.Bits.{fixed}
 use Rattle.codes.specs.Codes.{rest}
 use Rattle.codes.specs.Pen.{Wrote}
-use Rattle.codes.proofs.Bits.{bits-mod}
 use Rattle.codes.proofs.BitsWritten.{wrote-nothing, wrote-both}
-use Rattle.codes.proofs.LayersWritten.{fixed-suc, length-fixed-take, rest-suc}
-use Rattle.codes.proofs.Lists.{drop-later, getD-there}
+use Rattle.codes.proofs.LayersWritten.{fixed-add, length-fixed-take, number-fixed-lt, bits-fixed-take, rest-add}
+use Rattle.codes.proofs.Lists.{drop-later}
 use Rattle.codes.proofs.encoding.put_chunks.Statement.{statement}
 use Rattle.codes.proofs.encoding.put_chunks.Tie as tie
 
 abbrev Inv-loop : tie.InvT-loop
-Inv-loop out₀ b values₀ n p₀ left₀ i₀ out values p left i =
+Inv-loop out₀ radix values₀ n b room p₀ left₀ i₀ out values p left i =
     (left ≤ i) × (i ≤ n) × (length values ≡ length values₀) × (drop i values ≡ drop i values₀) × (take left values ≡ rest b (take i values₀))
     × Wrote out₀ p₀ out p (fixed b (take i values₀)) × (p .have < 32)
 
 abbrev μ-loop : tie.MeasureT-loop
-μ-loop out₀ b values₀ n p₀ left₀ i₀ out values p left i = n - i
+μ-loop out₀ radix values₀ n b room p₀ left₀ i₀ out values p left i = n - i
+
+-- chunks that go into 32 bits
+fits : (b k : ℕ) → k ≤ 32 / b → k * b ≤ 32
+fits b k t = le-trans (mul-le-mul-right b t) (div-mul-le-self 32 b)
+
+some-fit : (b : ℕ) → 1 ≤ b → b ≤ 8 → 1 ≤ 32 / b
+some-fit b l h = le-div-iff-mul-le {k = b} {x = 1} {y = 32} l .1 (omega arith)
+
+div-room : tie.Need-div-room Inv-loop μ-loop
+div-room c = omega arith
 
 loop-holds : tie.Need-loop-holds Inv-loop μ-loop
 unfolding fixed rest
@@ -29,65 +37,63 @@ loop-holds c =
     let a = c .before .before .args in
     (omega arith, omega arith, refl, refl, refl, wrote-nothing (a .out .now) (a .pen), omega arith)
 
-mul-v : tie.Need-mul-v Inv-loop μ-loop
-mul-v c = omega arith
+sub-least : tie.Need-sub-least Inv-loop μ-loop
+sub-least c = omega arith
 
-slice-read-v : tie.Need-slice-read-v Inv-loop μ-loop
-slice-read-v c = omega arith
+least-requires : tie.Need-least-requires Inv-loop μ-loop
+least-requires c κs = omega arith
 
-wide-requires : tie.Need-wide-requires Inv-loop μ-loop
-wide-requires c κs = omega arith
+joined-chunks-requires : tie.Need-joined-chunks-requires Inv-loop μ-loop
+joined-chunks-requires c κs =
+    let b = c .before .before .before .before .before .before .args .radix .bits in
+    let t : c .before .least .result ≤ 32 / b = omega arith in
+    ((omega arith, omega arith, omega arith), (omega arith, fits b _ t))
 
-low-bits-requires : tie.Need-low-bits-requires Inv-loop μ-loop
-low-bits-requires c κs = omega arith
+mul-put : tie.Need-mul-put Inv-loop μ-loop
+mul-put c =
+    let b = c .before .before .before .before .before .before .before .before .before .before .args .radix .bits in
+    let t : c .before .before .before .before .before .least .result ≤ 32 / b = omega arith in
+    omega (arith, fits b _ t)
 
 put-requires : tie.Need-put-requires Inv-loop μ-loop
 put-requires c κs =
-    let l = c .before .before .before .before .before .loop in
-    let a = c .before .before .before .before .before .before .before .before .args in
+    let l = c .before .before .before .before .before .before .before .loop in
+    let a = c .before .before .before .before .before .before .before .before .before .before .args in
+    let k = c .before .before .before .before .before .least .result in
+    let g = c .before .before .before .joined-chunks in
     let w = l .inv .5 in
-    let t : l .i + 1 ≤ a .n = omega arith in
-    omega (arith, length-fixed-take (a .b) (a .values .now) (l .i) (omega arith), mul-le-mul-right (a .b) t)
-
-cast-values : tie.Need-cast-values Inv-loop μ-loop
-cast-values c = omega arith
-
-shr-values : tie.Need-shr-values Inv-loop μ-loop
-shr-values c = omega arith
-
-mul-values : tie.Need-mul-values Inv-loop μ-loop
-mul-values c = omega arith
-
-slice-write-values : tie.Need-slice-write-values Inv-loop μ-loop
-slice-write-values c = omega arith
-
-more-bit-requires : tie.Need-more-bit-requires Inv-loop μ-loop
-more-bit-requires c κs = omega arith
-
-add-left : tie.Need-add-left Inv-loop μ-loop
-add-left c = omega arith
+    let t : k ≤ 32 / a .radix .bits = omega arith in
+    let s : l .i + k ≤ a .n = omega arith in
+    let m : l .i * a .radix .bits + k * a .radix .bits ≤ a .n * a .radix .bits = rw (add-mul (l .i) k (a .radix .bits)) at (mul-le-mul-right (a .radix .bits) s) in (
+      (fits (a .radix .bits) k t, rw (g .ensures .0) (number-fixed-lt (a .radix .bits) (drop (l .i) (l .values)) k (simp length-drop (omega arith))), omega arith),
+      omega (arith, length-fixed-take (a .radix .bits) (a .values .now) (l .i) (omega arith)),
+    )
 
 add-i : tie.Need-add-i Inv-loop μ-loop
 add-i c = omega arith
 
 loop-less : tie.Need-loop-less Inv-loop μ-loop
-loop-less c = omega arith
+loop-less c =
+    let a = c .before .before .before .before .before .before .before .before .before .before .before .before .before .args in
+    let some = some-fit (a .radix .bits) (omega arith) (omega arith) in
+    omega arith
 
 loop-again : tie.Need-loop-again Inv-loop μ-loop
 loop-again c =
-    let l = c .before .before .before .before .before .before .before .before .before .loop in
-    let a = c .before .before .before .before .before .before .before .before .before .before .before .before .args in
-    let vs = a .values .now in
-    let u = c .before .before .before .put .ensures in
-    let e : getD (l .values) (l .i) 0 ≡ getD vs (l .i) 0 = getD-there (l .values) vs (l .i) (l .inv .3) 0 in
-    let q = getD (l .values) (l .i) 0 / 2 ^ (a .b) in
-    let b = rw (c .before .before .before .before .low-bits .ensures .1, c .before .before .before .before .before .wide .ensures, e, bits-mod (a .b) (getD vs (l .i) 0)) at (u .0) in (
+    let l = c .before .before .before .before .before .before .before .before .before .before .loop in
+    let a = c .before .before .before .before .before .before .before .before .before .before .before .before .before .args in
+    let us = a .values .now in
+    let ds = l .inv .3 in
+    let k = c .before .before .before .before .before .before .before .before .least .result in
+    let g = c .before .before .before .before .before .before .joined-chunks in
+    let u = c .before .before .put .ensures in
+    let bs = bits-fixed-take (a .radix .bits) (drop (l .i) us) k (simp length-drop (omega arith)) in (
       omega arith,
       omega arith,
-      length-set (l .values) (l .left) q ∙ l .inv .2,
-      drop-set-lt (l .i + 1) (l .values) (l .left) q (omega arith) ∙ drop-later (l .values) vs (l .i) (l .inv .3) (l .i + 1) (omega arith),
-      rw (c .more-bit .ensures .1, e) (rest-suc (a .b) (l .left) (l .i) (l .values) vs (omega arith) (omega arith) (l .inv .4)),
-      rw (fixed-suc (a .b) vs (l .i) (omega arith)) (wrote-both (l .inv .5) b),
+      omega arith,
+      rw (g .ensures .3) (drop-later (l .values) us (l .i) ds (l .i + k) (omega arith)),
+      g .ensures .2 ∙ rw (l .inv .4, ds) (sym (rest-add (a .radix .bits) us (l .i) k)),
+      rw (fixed-add (a .radix .bits) us (l .i) k) (wrote-both (l .inv .5) (rw (g .ensures .0, ds, bs) at (u .0))),
       u .1,
     )
 
@@ -109,18 +115,13 @@ put-chunks-spec =
     (tie.spec
     Inv-loop
     μ-loop
+    div-room
     loop-holds
-    mul-v
-    slice-read-v
-    wide-requires
-    low-bits-requires
+    sub-least
+    least-requires
+    joined-chunks-requires
+    mul-put
     put-requires
-    cast-values
-    shr-values
-    mul-values
-    slice-write-values
-    more-bit-requires
-    add-left
     add-i
     loop-less
     loop-again

@@ -10,10 +10,10 @@ use Rattle.codes.proofs.encoding.put_marks.Statement.{statement}
 use Rattle.codes.proofs.encoding.put_marks.Tie as tie
 
 abbrev Inv-loop : tie.InvT-loop
-Inv-loop out₀ b values n p₀ i₀ out p i = (i ≤ n) × Wrote out₀ p₀ out p (marks b values i) × (p .have < 32)
+Inv-loop out₀ radix values n p₀ i₀ out p i = (i ≤ n) × Wrote out₀ p₀ out p (marks (radix .bits) values i) × (p .have < 32)
 
 abbrev μ-loop : tie.MeasureT-loop
-μ-loop out₀ b values n p₀ i₀ out p i = n - i
+μ-loop out₀ radix values n p₀ i₀ out p i = n - i
 
 loop-holds : tie.Need-loop-holds Inv-loop μ-loop
 loop-holds c =
@@ -35,8 +35,8 @@ put-requires c κs =
     let a = c .before .before .before .before .before .before .before .args in
     let k = c .before .before .least .result in
     let w = l .inv .1 in
-    let x = number-marks-lt (a .b) (drop (l .i) (a .values .now)) k (simp length-drop (omega arith)) in
-    omega (arith, c .joined-marks .ensures, length-marks (a .b) (a .values .now) (l .i) (omega arith))
+    let x = number-marks-lt (a .radix .bits) (drop (l .i) (a .values .now)) k (simp length-drop (omega arith)) in
+    omega (arith, c .joined-marks .ensures, length-marks (a .radix .bits) (a .values .now) (l .i) (omega arith))
 
 add-i : tie.Need-add-i Inv-loop μ-loop
 add-i c = omega arith
@@ -50,8 +50,8 @@ loop-again c =
     let a = c .before .before .before .before .before .before .before .before .before .before .args in
     let k = c .before .before .before .before .before .least .result in
     let u = c .before .before .put .ensures in
-    let b = bits-marks (a .b) (drop (l .i) (a .values .now)) k (simp length-drop (omega arith)) in
-    (omega arith, rw (marks-add (a .b) (a .values .now) (l .i) k) (wrote-both (l .inv .1) (rw (c .before .before .before .joined-marks .ensures, b) at (u .0))), u .1)
+    let b = bits-marks (a .radix .bits) (drop (l .i) (a .values .now)) k (simp length-drop (omega arith)) in
+    (omega arith, rw (marks-add (a .radix .bits) (a .values .now) (l .i) k) (wrote-both (l .inv .1) (rw (c .before .before .before .joined-marks .ensures, b) at (u .0))), u .1)
 
 same-length : tie.Need-same-length Inv-loop μ-loop
 same-length c = c .before .loop .inv .1 .kept

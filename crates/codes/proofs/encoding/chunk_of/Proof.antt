@@ -1,0 +1,21 @@
+-- `chunk_of` meets its contract.
+use native.Mathlib.Omega.{arith}
+use borrow.Author.Needs.{needs}
+use lib.Bits.{and-mask}
+use lib.Pow.{pow-pos}
+use Rattle.codes.proofs.encoding.chunk_of.Statement.{statement}
+use Rattle.codes.proofs.encoding.chunk_of.Tie as tie
+
+wide-requires : tie.Need-wide-requires
+wide-requires c κs = search needs
+
+sub-result : tie.Need-sub-result
+sub-result c = omega (arith, pow-pos (c .before .before .args .radix .bits))
+
+returns : tie.Need-returns
+returns c =
+    let s = c .before .before in
+    rw (c .before .wide .ensures, s .pre) (and-mask (s .args .v) (s .args .radix .bits))
+
+pub chunk-of-spec : {M : Type 1} → statement M
+chunk-of-spec = tie.close (tie.spec wide-requires sub-result returns)
