@@ -121,7 +121,7 @@ layer-back f g b vs j after h ih =
         (topped b (getD vs j 0 % 2 ^ b) (fetchLayers g b (length (rest b vs)) (sum (take j (map (more b) vs))) (layers f b (rest b vs) ++ after)))
         ≡ value (getD vs j 0)
     go true e = ap value (omega (arith, mod-add-div (getD vs j 0) (2 ^ b), ap (λ (q : ℕ). 2 ^ b * q) (eqb-true (getD vs j 0 / 2 ^ b) 0 e)))
-    go false e = rw (ih e, mod-add-div (getD vs j 0) (2 ^ b))
+    go false e = rw (ih e) (ap value (omega (arith, mod-add-div (getD vs j 0) (2 ^ b))))
 
 -- only value j has to be small
 pub layers-back : (f g b : ℕ) (vs : List ℕ) (j : ℕ) (after : List ℕ) → 1 ≤ b → f ≤ g → j < length vs → getD vs j 0 < 2 ^ suc f

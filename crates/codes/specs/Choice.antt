@@ -37,11 +37,11 @@ offer code vs = record { code = code; size = size code vs }
 abbrev pub better : Choice → Choice → Choice
 better a b = cond (ltb (b .size) (a .size)) b a
 
--- the best of the fixed code and the chunked codes with b up to k
-unfoldable pub bestTo : ℕ → List ℕ → Choice
-bestTo zero vs = offer (widest vs) vs
-bestTo (suc k) vs = better (bestTo k vs) (offer (64 + suc k) vs)
+-- the best of the chunked codes with b from 1 to suc k, the smaller b on a tie
+unfoldable pub bestChunked : ℕ → List ℕ → Choice
+bestChunked zero vs = offer 65 vs
+bestChunked (suc k) vs = better (bestChunked k vs) (offer (66 + k) vs)
 
--- the code with fewest bits; on a tie a fixed code wins, then the smaller b
-abbrev pub chosen : List ℕ → Choice
-chosen vs = bestTo 8 vs
+-- the code with fewest bits; on a tie a fixed code wins
+unfoldable pub chosen : List ℕ → Choice
+chosen vs = better (offer (widest vs) vs) (bestChunked 7 vs)

@@ -1,4 +1,5 @@
--- The marked parts of list A, computed: its levels are 400; 150, 600; 150, 0.
+-- Levels with the parts that they must have, computed. The first three are those of list A, marked in 01, of which the third ties at
+-- 15 bits for b = 2 and b = 4. The next is that of the list 0. The last ties at 12 bits for width 3 and b = 1.
 use mathlib.Core.Bool.{Bool, true, false, cond}
 use mathlib.Core.Path.{_≡_, refl}
 use mathlib.Core.List.{List, [], _∷_}
@@ -7,7 +8,7 @@ use lib.Dec.{eqb}
 use lib.ListN.{length}
 use Rattle.codes.specs.Bits.{bits, number, sum, fixed, bytesOf, padded}
 use Rattle.codes.specs.Codes.{kindOf, rest, layers, kindBits, part}
-use Rattle.codes.specs.Choice.{widthIn, widest, bestTo, chosen}
+use Rattle.codes.specs.Choice.{widthIn, widest, bestChunked, chosen}
 use Rattle.codes.specs.Fetch.{Fetched, value, outside, fixedAt, fetchLayers, chunkedAt, fetched}
 
 -- a level with the code that pack chooses for it, and its part
@@ -22,6 +23,7 @@ marked =
     ∷ record { values = 150 ∷ 600 ∷ []; code = 0x0a; bytes = 0x25 ∷ 0xa5 ∷ 0x80 ∷ [] }
     ∷ record { values = 150 ∷ 0 ∷ []; code = 0x42; bytes = 0xa2 ∷ 0xd4 ∷ [] }
     ∷ record { values = 0 ∷ []; code = 0; bytes = [] }
+    ∷ record { values = 7 ∷ 0 ∷ 0 ∷ 0 ∷ []; code = 3; bytes = 0xe0 ∷ 0x00 ∷ [] }
     ∷ []
 
 abbrev and : Bool → Bool → Bool
@@ -51,5 +53,5 @@ all [] = true
 all (l ∷ ls) = and (passes l) (all ls)
 
 pub marked-pass : all marked ≡ true
-unfolding bits number sum fixed bytesOf padded kindOf rest layers kindBits widthIn widest bestTo fixedAt fetchLayers chunkedAt fetched
+unfolding bits number sum fixed bytesOf padded kindOf rest layers kindBits widthIn widest bestChunked chosen fixedAt fetchLayers chunkedAt fetched
 marked-pass = refl

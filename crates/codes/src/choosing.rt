@@ -5,7 +5,7 @@ ghost use mathlib.Core.List.{List};
 ghost use Prim.Native.Nat.{ℕ, _+_, _*_, _^_, _<_, _≤_};
 ghost use lib.ListN.{length, getD};
 ghost use Rattle.codes.specs.Codes.{chunked};
-ghost use Rattle.codes.specs.Choice.{widest, chosen};
+ghost use Rattle.codes.specs.Choice.{widest, bestChunked, chosen};
 ghost use Rattle.codes.specs.Measure.{Measured};
 
 // A code with its size in bits.
@@ -41,26 +41,43 @@ fn chunked_size(over: [usize; 33], count: usize, b: usize) -> usize
     chunks * (b + 1)
 }
 
-// The code with fewest bits before padding: on a tie the fixed one, then the smaller b.
+// The chunked code with fewest bits, on a tie the one with the smaller b.
+fn best_chunked(over: [usize; 33], count: usize) -> Choice
+    requires { ⌜ count < 2 ^ 32 ⌝ }
+    requires { ⌜ ((t : ℕ) → getD over t 0 ≤ count) ⌝ }
+    ensures { λ r. ⌜ ((vs : List ℕ) → Measured vs over → length vs ≡ count → r ≡ bestChunked 7 vs) ⌝ }
+{
+    let mut code: u8 = 65;
+    let mut size = chunked_size(over, count, 1);
+    let mut k: usize = 0;
+    while k < 7 {
+        let s = chunked_size(over, count, k + 2);
+        if s < size {
+            code = (66 + k) as u8;
+            size = s;
+        }
+        k += 1;
+    }
+    Choice {
+        code: code,
+        size: size,
+    }
+}
+
+// The code with fewest bits before padding, on a tie the fixed one.
 pub fn choose(values: &[u32]) -> Choice
     requires { ⌜ length (now values) < 2 ^ 32 ⌝ }
     ensures { λ r. ⌜ r ≡ chosen (now (values .entry)) ⌝ }
 {
     let over = measure(values);
     let w = fixed_width(over);
-    let mut code = w as u8;
-    let mut size = values.len() * w;
-    let mut b: usize = 0;
-    while b < 8 {
-        b += 1;
-        let s = chunked_size(over, values.len(), b);
-        if s < size {
-            code = (64 + b) as u8;
-            size = s;
-        }
+    let size = values.len() * w;
+    let chunked = best_chunked(over, values.len());
+    if chunked.size < size {
+        return chunked;
     }
     Choice {
-        code: code,
+        code: w as u8,
         size: size,
     }
 }

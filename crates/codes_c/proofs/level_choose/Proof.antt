@@ -2,21 +2,10 @@
 use native.Mathlib.Omega.{arith}
 use borrow.Author.Needs.{needs}
 use mathlib.Core.Path.{ap}
-use mathlib.Core.List.{List}
-use Prim.Native.Nat.{ℕ, _*_, _≤_}
-use lib.ListN.{length}
-use Rattle.codes.specs.Codes.{Within}
-use Rattle.codes.specs.Choice.{chosen}
-use Rattle.codes.proofs.CodeByte.{kind-fixed}
-use Rattle.codes.proofs.Promises.{best-choice, lengths}
+use Rattle.codes.proofs.Best.{chosen-at-most}
 use Rattle.codes_c.specs.Numbers.{choiceNumber}
 use Rattle.codes_c.proofs.level_choose.Statement.{statement}
 use Rattle.codes_c.proofs.level_choose.Tie as tie
-
-size-bound : (vs : List ℕ) → Within 32 vs → chosen vs .size ≤ length vs * 32
-size-bound vs h =
-    let e = kind-fixed 32 (omega arith) in
-    rw (lengths .fixed-size 32 32 vs e) at (best-choice vs h .fewest 32 (rw e h))
 
 choose-requires : tie.Need-choose-requires
 choose-requires c κs = search needs
@@ -24,7 +13,7 @@ choose-requires c κs = search needs
 mul-result : tie.Need-mul-result
 mul-result c =
     let vs = c .before .before .args .values .now in
-    let b = size-bound vs (λ j. c .before .shared-slice-known .given j .fits) in
+    let b = chosen-at-most vs (λ j. c .before .shared-slice-known .given j .fits) in
     rw (c .choose .ensures) (omega arith)
 
 cast-result : tie.Need-cast-result
@@ -33,7 +22,7 @@ cast-result c = search needs
 add-result : tie.Need-add-result
 add-result c =
     let vs = c .before .before .before .args .values .now in
-    let b = rw (← (c .before .choose .ensures)) at (size-bound vs (λ j. c .before .before .shared-slice-known .given j .fits)) in
+    let b = rw (← (c .before .choose .ensures)) at (chosen-at-most vs (λ j. c .before .before .shared-slice-known .given j .fits)) in
     omega (arith, c .struct-known .given)
 
 returns : tie.Need-returns

@@ -1,6 +1,6 @@
 -- `put_chunks` meets its contract.
 use native.Mathlib.Omega.{arith}
-use mathlib.Core.Path.{_≡_, refl, sym, _∙_}
+use mathlib.Core.Path.{_≡_, refl}
 use Prim.Native.Nat.{ℕ, _+_, _-_, _*_, _/_, _≤_, _<_}
 use native.Mathlib.Nat.{le-trans, mul-le-mul-right, add-mul, div-mul-le-self, le-div-iff-mul-le}
 use lib.ListN.{length, take, drop, length-drop}
@@ -92,7 +92,7 @@ loop-again c =
       omega arith,
       omega arith,
       rw (g .ensures .3) (drop-later (l .values) us (l .i) ds (l .i + k) (omega arith)),
-      g .ensures .2 ∙ rw (l .inv .4, ds) (sym (rest-add (a .radix .bits) us (l .i) k)),
+      rw (g .ensures .2, l .inv .4, ds, rest-add (a .radix .bits) us (l .i) k),
       rw (fixed-add (a .radix .bits) us (l .i) k) (wrote-both (l .inv .5) (rw (g .ensures .0, ds, bs) at (u .0))),
       u .1,
     )
