@@ -24,11 +24,11 @@ use Rattle.codes.proofs.Widths.{widest-holds, widest-least, widest-le}
 kind-of-chunked : (b : ℕ) → 1 ≤ b → b ≤ 8 → kindOf (64 + b) ≡ Chunked b
 kind-of-chunked b l h = let e : 64 + b - 64 ≡ b = omega arith in rw e at (kind-chunked (64 + b) (omega arith) (omega arith))
 
-pub size-fixed : (w : ℕ) (vs : List ℕ) → w ≤ 32 → size w vs ≡ length vs * w
+size-fixed : (w : ℕ) (vs : List ℕ) → w ≤ 32 → size w vs ≡ length vs * w
 unfolding kindBits
 size-fixed w vs h = rw (kind-fixed w (omega arith)) (length-fixed w vs)
 
-pub size-chunked : (b : ℕ) (vs : List ℕ) → 1 ≤ b → b ≤ 8 → size (64 + b) vs ≡ length (chunked b vs)
+size-chunked : (b : ℕ) (vs : List ℕ) → 1 ≤ b → b ≤ 8 → size (64 + b) vs ≡ length (chunked b vs)
 unfolding kindBits
 size-chunked b vs l h = rw (kind-of-chunked b l h)
 

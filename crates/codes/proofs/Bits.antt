@@ -30,7 +30,7 @@ bits-drop zero xs h = h
 bits-drop (suc n) [] h = tt
 bits-drop (suc n) (x ∷ xs) h = bits-drop n xs (h .1)
 
-pub bits-bits : (w x : ℕ) → Bits (bits w x)
+bits-bits : (w x : ℕ) → Bits (bits w x)
 unfolding bits
 bits-bits zero x = tt
 bits-bits (suc w) x = (omega arith, bits-bits w x)
@@ -119,7 +119,7 @@ bits-mod w x = sym (bits-low w (x / 2 ^ w) (x % 2 ^ w)) ∙ ap (bits w) (split x
 
 -- ---- ones
 
-pub sum-append : (xs ys : List ℕ) → sum (xs ++ ys) ≡ sum xs + sum ys
+sum-append : (xs ys : List ℕ) → sum (xs ++ ys) ≡ sum xs + sum ys
 unfolding sum
 sum-append [] ys = omega arith
 sum-append (x ∷ xs) ys = omega (arith, sum-append xs ys)
@@ -156,7 +156,7 @@ length-padded bs = length-bytesOf (bytesFor (length bs)) (bs ++ replicate 7 0)
 
 -- ---- a part of bits, as a number
 
-pub number-mid : (a m z : List ℕ) → Bits m → Bits z → number (a ++ (m ++ z)) / 2 ^ length z % 2 ^ length m ≡ number m
+number-mid : (a m z : List ℕ) → Bits m → Bits z → number (a ++ (m ++ z)) / 2 ^ length z % 2 ^ length m ≡ number m
 number-mid a m z hm hz =
     let s : number (a ++ (m ++ z)) ≡ (number a * 2 ^ length m + number m) * 2 ^ length z + number z =
     simp (number-append, length-append, pow-add) (omega arith) in

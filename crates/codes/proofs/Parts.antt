@@ -37,7 +37,7 @@ bits-kind (Chunked b) vs = bits-layers 32 b vs
 bits-kind Refused vs = tt
 
 -- a part's bits are the level's, and then others
-pub bits-part : (code : ℕ) (vs after : List ℕ) → let bs = kindBits (kindOf code) vs in bitsOf (part code vs ++ after) ≡ bs ++ (padding (length bs) ++ bitsOf after)
+bits-part : (code : ℕ) (vs after : List ℕ) → let bs = kindBits (kindOf code) vs in bitsOf (part code vs ++ after) ≡ bs ++ (padding (length bs) ++ bitsOf after)
 bits-part code vs after =
     let bs = kindBits (kindOf code) vs in
     rw (fixed-append 8 (part code vs) after, bits-padded bs (bits-kind (kindOf code) vs), append-assoc bs (padding (length bs)) (bitsOf after))

@@ -49,7 +49,7 @@ next s b a c (value v) =
 -- ---- the turns
 
 -- a bit, read as a number
-pub number-one : (bs : List ℕ) (k : ℕ) → k < length bs → number (take 1 (drop k bs)) ≡ getD bs k 0
+number-one : (bs : List ℕ) (k : ℕ) → k < length bs → number (take 1 (drop k bs)) ≡ getD bs k 0
 unfolding number
 number-one [] k h = absurd (omega arith)
 number-one (x ∷ bs) zero h = omega arith

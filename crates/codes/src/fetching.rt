@@ -16,6 +16,9 @@ pub enum Found {
     Outside,
 }
 
+// 2^32, the least number that is no value.
+const LIMIT: u64 = 4294967296;
+
 // A layer of a chunked level: the bit where it begins, how many values it has, and which of them is fetched.
 struct Layer {
     at: usize,
@@ -89,7 +92,7 @@ fn fetch_chunked(part: &[u8], b: usize, count: usize, index: usize) -> Found
     let mut acc: u64 = 0;
     while layer.count + layer.count * b <= end - layer.at {
         acc += chunk_at(part, layer.at + layer.count + layer.index * b, b, shift);
-        if acc >= 4294967296 {
+        if acc >= LIMIT {
             return Found::Outside;
         }
         if read(part, layer.at + layer.index, 1) == 0 {

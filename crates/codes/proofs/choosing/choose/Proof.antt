@@ -32,7 +32,8 @@ returns c =
     let w = c .before .before .before .fixed-width in
     let b = c .before .before .best-chunked in
     let e : b .result ≡ bestChunked 7 vs = b .ensures vs m refl in
-    e ∙ chosen-chunked vs (w .result) (w .ensures .1 vs m) (rw e at (c .if1 .taken))
+    let l = rw e at (c .if1 .taken) in
+    e ∙ chosen-chunked vs (w .result) (w .ensures .1 vs m) (omega arith)
 
 cast-t8 : tie.Need-cast-t8
 cast-t8 c = search needs
@@ -44,7 +45,8 @@ returns-2 c =
     let w = c .before .before .before .fixed-width in
     let b = c .before .before .best-chunked in
     let e : b .result ≡ bestChunked 7 vs = b .ensures vs m refl in
-    chosen-fixed vs (w .result) (w .ensures .1 vs m) (rw e at (c .if1 .left))
+    let l = rw e at (c .if1 .left) in
+    chosen-fixed vs (w .result) (w .ensures .1 vs m) (omega arith)
 
 pub choose-spec : {M : Type 1} → statement M
 choose-spec =

@@ -27,7 +27,7 @@ returns c =
     let q = d .result in
     let o = d .last .0 in
     let w = d .ensures .0 in
-    let z : q .have ≡ 0 = c .if1 .taken in
+    let z : q .have ≡ 0 = omega arith in
     let f = bytes-take (q .at) o (λ i. c .before .slice-known2 .given i .fits) in
     let s : padded (written o q) ≡ take (q .at) o = rw z (padded-whole (take (q .at) o) (q .acc) f) in
     (omega arith, sym s ∙ ap padded (w .spelled ∙ append-nil (written (a .out .now) (a .pen))), w .later)
