@@ -13,7 +13,7 @@ unfoldable pub number : List ℕ → ℕ
 number [] = 0
 number (b ∷ bs) = b * 2 ^ length bs + number bs
 
--- of bits, how many are 1
+-- the sum of numbers: of bits, how many are 1
 unfoldable pub sum : List ℕ → ℕ
 sum [] = 0
 sum (x ∷ xs) = x + sum xs

@@ -39,7 +39,7 @@ fetchLayers (suc f) b count j bs =
     let above = topped b c (fetchLayers f b (sum (take count bs)) (sum (take j bs)) (drop (count + count * b) bs)) in
     cond (ltb (length bs) (count + count * b)) outside (cond (eqb (getD bs j 0) 0) (value c) above)
 
--- Every layer takes at least one bit, so there are no more layers than bits; `fetch-step` in proofs/Layers has the equation
+-- Every layer takes at least one bit, so there are no more layers than bits; `fetch-step` in proofs/Fetches has the equation
 -- without their number.
 unfoldable pub chunkedAt : ℕ → ℕ → ℕ → List ℕ → Fetched
 chunkedAt b count j bs = fetchLayers (suc (length bs)) b count j bs

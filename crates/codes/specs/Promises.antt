@@ -1,4 +1,5 @@
--- What is shown of the level codes besides each function's contract. proofs/Promises proves each, under the same name.
+-- What is shown of the level codes besides each function's contract. proofs/Promises proves each, as
+-- `round-trip`, `lengths`, `best-choice` and `part-alone`.
 use mathlib.Core.Path.{_≡_}
 use mathlib.Core.List.{List, _++_, map}
 use Prim.Native.Nat.{ℕ, _+_, _*_, _≤_, _<_}

@@ -3,6 +3,7 @@ mod choosing; // the code with fewest bits
 mod encoding; // a level's part, written
 mod fetching; // one value, from the part alone
 mod kinds; // what a code byte says
+mod layering; // the layers of a chunked code, written
 mod measuring; // how many values have how many bits
 mod reading; // bits of a part, by bytes and words
 mod writing; // bits into a buffer, one after the other

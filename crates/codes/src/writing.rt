@@ -13,8 +13,15 @@ pub(crate) struct Pen {
     pub(crate) acc: u64,
 }
 
+// A value as a word.
+pub(crate) fn wide(x: u32) -> u64
+    ensures { λ r. ⌜ r ≡ x ⌝ }
+{
+    x as u64
+}
+
 // The bits of `acc`, those that a word has no room for left out, then the `w` bits of `x`.
-pub(crate) fn join(acc: u64, w: usize, x: u64) -> u64
+fn join(acc: u64, w: usize, x: u64) -> u64
     requires { ⌜ (w ≤ 32) × (x < 2 ^ w) ⌝ }
     ensures { λ r. ⌜ r ≡ acc % 2 ^ (64 - w) * 2 ^ w + x ⌝ }
 {

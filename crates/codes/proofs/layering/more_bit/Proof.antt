@@ -5,8 +5,8 @@ use Prim.Native.Nat.{_/_, _^_, _≤_, _<_}
 use native.Mathlib.Nat.{div-eq-of-lt, le-div-iff-mul-le}
 use lib.Pow.{pow-pos}
 use borrow.Author.Tests.{eq-eqb, ne-eqb}
-use Rattle.codes.proofs.encoding.more_bit.Statement.{statement}
-use Rattle.codes.proofs.encoding.more_bit.Tie as tie
+use Rattle.codes.proofs.layering.more_bit.Statement.{statement}
+use Rattle.codes.proofs.layering.more_bit.Tie as tie
 
 wide-requires : tie.Need-wide-requires
 wide-requires c κs = search needs

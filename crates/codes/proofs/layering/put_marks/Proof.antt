@@ -6,8 +6,8 @@ use lib.ListN.{drop, length-drop}
 use Rattle.codes.specs.Pen.{Wrote}
 use Rattle.codes.proofs.BitsWritten.{wrote-nothing, wrote-both}
 use Rattle.codes.proofs.LayersWritten.{marks, length-marks, number-marks-lt, bits-marks, marks-add}
-use Rattle.codes.proofs.encoding.put_marks.Statement.{statement}
-use Rattle.codes.proofs.encoding.put_marks.Tie as tie
+use Rattle.codes.proofs.layering.put_marks.Statement.{statement}
+use Rattle.codes.proofs.layering.put_marks.Tie as tie
 
 abbrev Inv-loop : tie.InvT-loop
 Inv-loop out₀ radix values n p₀ i₀ out p i = (i ≤ n) × Wrote out₀ p₀ out p (marks (radix .bits) values i) × (p .have < 32)

@@ -11,8 +11,8 @@ use Rattle.codes.specs.Bits.{number, fixed}
 use Rattle.codes.specs.Codes.{rest}
 use Rattle.codes.proofs.LayersWritten.{number-fixed-lt, number-fixed-suc, rest-suc}
 use Rattle.codes.proofs.Lists.{drop-later, getD-there}
-use Rattle.codes.proofs.encoding.joined_chunks.Statement.{statement}
-use Rattle.codes.proofs.encoding.joined_chunks.Tie as tie
+use Rattle.codes.proofs.layering.joined_chunks.Statement.{statement}
+use Rattle.codes.proofs.layering.joined_chunks.Tie as tie
 
 abbrev Inv-loop : tie.InvT-loop
 Inv-loop values₀ from n radix left b power joined₀ kept₀ i₀ values joined kept i =

@@ -6,8 +6,8 @@ use Prim.Native.Nat.{ℕ, zero, suc, _*_, _^_, _<_}
 use native.Mathlib.Nat.{not-suc-le-zero, le-of-suc-le-suc, pow-suc}
 use lib.ListN.{getD}
 use borrow.Author.Needs.{needs}
-use Rattle.codes.proofs.encoding.radix_of.Statement.{statement}
-use Rattle.codes.proofs.encoding.radix_of.Tie as tie
+use Rattle.codes.proofs.layering.radix_of.Statement.{statement}
+use Rattle.codes.proofs.layering.radix_of.Tie as tie
 
 -- x and its doubles, n in all
 abbrev doubles : ℕ → ℕ → List ℕ

@@ -12,8 +12,8 @@ use Rattle.codes.proofs.BitsWritten.{wrote-nothing, wrote-both}
 use Rattle.codes.proofs.Layers.{layers-nil, within-rest, within-more}
 use Rattle.codes.proofs.LayersWritten.{length-marks, rest-sum, layer-room, layer-next}
 use Rattle.codes.proofs.Lists.{drop-later}
-use Rattle.codes.proofs.encoding.put_layers.Statement.{statement}
-use Rattle.codes.proofs.encoding.put_layers.Tie as tie
+use Rattle.codes.proofs.layering.put_layers.Statement.{statement}
+use Rattle.codes.proofs.layering.put_layers.Tie as tie
 
 abbrev Inv-loop : tie.InvT-loop
 Inv-loop out₀ b values₀ n radix p₀ left₀ out values p left =

@@ -10,8 +10,8 @@ use Rattle.codes.specs.Pen.{Wrote}
 use Rattle.codes.proofs.BitsWritten.{wrote-nothing, wrote-both}
 use Rattle.codes.proofs.LayersWritten.{fixed-add, length-fixed-take, number-fixed-lt, bits-fixed-take, rest-add}
 use Rattle.codes.proofs.Lists.{drop-later}
-use Rattle.codes.proofs.encoding.put_chunks.Statement.{statement}
-use Rattle.codes.proofs.encoding.put_chunks.Tie as tie
+use Rattle.codes.proofs.layering.put_chunks.Statement.{statement}
+use Rattle.codes.proofs.layering.put_chunks.Tie as tie
 
 abbrev Inv-loop : tie.InvT-loop
 Inv-loop out₀ radix values₀ n b room p₀ left₀ i₀ out values p left i =

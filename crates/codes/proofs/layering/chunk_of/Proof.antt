@@ -3,8 +3,8 @@ use native.Mathlib.Omega.{arith}
 use borrow.Author.Needs.{needs}
 use lib.Bits.{and-mask}
 use lib.Pow.{pow-pos}
-use Rattle.codes.proofs.encoding.chunk_of.Statement.{statement}
-use Rattle.codes.proofs.encoding.chunk_of.Tie as tie
+use Rattle.codes.proofs.layering.chunk_of.Statement.{statement}
+use Rattle.codes.proofs.layering.chunk_of.Tie as tie
 
 wide-requires : tie.Need-wide-requires
 wide-requires c κs = search needs

@@ -7,8 +7,8 @@ use lib.Pow.{pow-mono}
 use lib.Seq.{getD-drop}
 use Rattle.codes.specs.Bits.{number}
 use Rattle.codes.proofs.LayersWritten.{marks, number-marks-lt, number-marks-suc}
-use Rattle.codes.proofs.encoding.joined_marks.Statement.{statement}
-use Rattle.codes.proofs.encoding.joined_marks.Tie as tie
+use Rattle.codes.proofs.layering.joined_marks.Statement.{statement}
+use Rattle.codes.proofs.layering.joined_marks.Tie as tie
 
 abbrev Inv-loop : tie.InvT-loop
 Inv-loop values from n radix joined₀ i₀ joined i = (i ≤ n) × (joined ≡ number (marks (radix .bits) (drop from values) i)) × (joined < 2 ^ 32)

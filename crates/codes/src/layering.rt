@@ -1,0 +1,158 @@
+// The layers of a chunked code, written one after the other.
+use super::reading::least;
+use super::writing::Pen;
+use super::writing::put;
+use super::writing::wide;
+ghost use mathlib.Core.Path.{_≡_};
+ghost use mathlib.Core.List.{_++_, map};
+ghost use Prim.Native.Nat.{_+_, _*_, _%_, _^_, _<_, _≤_};
+ghost use lib.ListN.{length, take, drop};
+ghost use Rattle.codes.specs.Bits.{number, fixed};
+ghost use Rattle.codes.specs.Codes.{more, rest, chunked, Within};
+ghost use Rattle.codes.specs.Pen.{Wrote};
+
+// The width of a chunk, and 2 to its power.
+struct Radix {
+    bits: usize,
+    power: u64,
+}
+
+const POWERS: [u64; 9] = [1, 2, 4, 8, 16, 32, 64, 128, 256];
+
+// The power comes from a table, since the compiler makes slow shifts of products and comparisons with a computed one.
+fn radix_of(b: usize) -> Radix
+    requires { ⌜ b ≤ 8 ⌝ }
+    ensures { λ r. ⌜ (r .bits ≡ b) × (r .power ≡ 2 ^ b) ⌝ }
+{
+    Radix {
+        bits: b,
+        power: POWERS[b],
+    }
+}
+
+// The lowest chunk of `v`.
+fn chunk_of(v: u32, radix: Radix) -> u64
+    requires { ⌜ radix .power ≡ 2 ^ (radix .bits) ⌝ }
+    ensures { λ r. ⌜ r ≡ v % 2 ^ (radix .bits) ⌝ }
+{
+    wide(v) & (radix.power - 1)
+}
+
+// The continuation bit of `v`: 1 where another chunk follows the lowest.
+fn more_bit(v: u32, radix: Radix) -> u64
+    requires { ⌜ radix .power ≡ 2 ^ (radix .bits) ⌝ }
+    ensures { λ r. ⌜ (r < 2) × (r ≡ more (radix .bits) v) ⌝ }
+{
+    if wide(v) < radix.power { 0 } else { 1 }
+}
+
+// The number that the continuation bits of `n` values from value `from` on spell.
+fn joined_marks(values: &[u32], from: usize, n: usize, radix: Radix) -> u64
+    requires { ⌜ (from + n ≤ length (now values)) × (n ≤ 32) × (radix .power ≡ 2 ^ (radix .bits)) ⌝ }
+    ensures { λ r. ⌜ r ≡ number (map (more (radix .bits)) (take n (drop from (now (values .entry))))) ⌝ }
+{
+    let mut joined: u64 = 0;
+    let mut i: usize = 0;
+    while i < n {
+        joined = joined * 2 + more_bit(values[from + i], radix);
+        i += 1;
+    }
+    joined
+}
+
+// Writes the continuation bits of the first `n` values, 32 at a time.
+fn put_marks(out: &mut [u8], pen: Pen, radix: Radix, values: &[u32], n: usize) -> Pen
+    requires { ⌜ (radix .power ≡ 2 ^ (radix .bits)) × (pen .have < 32) × (n ≤ length (now values)) ⌝ }
+    requires { ⌜ pen .at * 8 + pen .have + n ≤ length (now out) * 8 ⌝ }
+    ensures { λ r. ⌜ Wrote (now (out .entry)) pen (now (out .exit)) r (map (more (radix .bits)) (take n (now (values .entry)))) × (r .have < 32) ⌝ }
+{
+    let mut p = pen;
+    let mut i: usize = 0;
+    while i < n {
+        let k = least(n - i, 32);
+        p = put(out, p, k, joined_marks(values, i, k, radix));
+        i += k;
+    }
+    p
+}
+
+// The number that chunks spell, and how many values in front go on in the next layer.
+struct Group {
+    joined: u64,
+    left: usize,
+}
+
+// Joins the lowest chunks of `n` values from value `from` on, and adds what these values have above to the `left` in front.
+fn joined_chunks(values: &mut [u32], from: usize, n: usize, radix: Radix, left: usize) -> Group
+    requires { ⌜ (radix .bits ≤ 8) × (radix .power ≡ 2 ^ (radix .bits)) × (left ≤ from) ⌝ }
+    requires { ⌜ (from + n ≤ length (now values)) × (n * radix .bits ≤ 32) ⌝ }
+    ensures { λ r. ⌜ (r .joined ≡ number (fixed (radix .bits) (take n (drop from (now (values .entry)))))) × (r .left ≤ left + n)
+        × (take (r .left) (now (values .exit)) ≡ take left (now (values .entry)) ++ rest (radix .bits) (take n (drop from (now (values .entry)))))
+        × (drop (from + n) (now (values .exit)) ≡ drop (from + n) (now (values .entry))) ⌝ }
+{
+    let b = radix.bits;
+    let power = radix.power;
+    let mut joined: u64 = 0;
+    let mut kept = left;
+    let mut i: usize = 0;
+    while i < n {
+        let v = values[from + i];
+        joined = joined * power + chunk_of(v, radix);
+        values[kept] = v >> b;
+        kept += more_bit(v, radix) as usize;
+        i += 1;
+    }
+    Group {
+        joined: joined,
+        left: kept,
+    }
+}
+
+// A pen, and how many values go on in the next layer.
+struct Chunks {
+    pen: Pen,
+    left: usize,
+}
+
+// Writes the lowest chunks of the first `n` values, as many at a time as go into 32 bits, and leaves what these values have
+// above at the front.
+fn put_chunks(out: &mut [u8], pen: Pen, radix: Radix, values: &mut [u32], n: usize) -> Chunks
+    requires { ⌜ (1 ≤ radix .bits) × (radix .bits ≤ 8) × (radix .power ≡ 2 ^ (radix .bits)) × (pen .have < 32) × (n ≤ length (now values)) ⌝ }
+    requires { ⌜ pen .at * 8 + pen .have + n * radix .bits ≤ length (now out) * 8 ⌝ }
+    ensures { λ r. ⌜ Wrote (now (out .entry)) pen (now (out .exit)) (r .pen) (fixed (radix .bits) (take n (now (values .entry)))) × (r .pen .have < 32)
+        × (r .left ≤ n) × (take (r .left) (now (values .exit)) ≡ rest (radix .bits) (take n (now (values .entry))))
+        × (drop n (now (values .exit)) ≡ drop n (now (values .entry))) ⌝ }
+{
+    let b = radix.bits;
+    let room = 32 / b;
+    let mut p = pen;
+    let mut left: usize = 0;
+    let mut i: usize = 0;
+    while i < n {
+        let k = least(n - i, room);
+        let group = joined_chunks(values, i, k, radix, left);
+        p = put(out, p, k * b, group.joined);
+        left = group.left;
+        i += k;
+    }
+    Chunks { pen: p, left: left }
+}
+
+// Writes the layers of the first `n` values, as long as a value goes on, and uses these values up.
+pub(crate) fn put_layers(out: &mut [u8], pen: Pen, b: usize, values: &mut [u32], n: usize) -> Pen
+    requires { ⌜ (1 ≤ b) × (b ≤ 8) × (pen .have < 32) × (n ≤ length (now values)) × Within 32 (take n (now values)) ⌝ }
+    requires { ⌜ pen .at * 8 + pen .have + length (chunked b (take n (now values))) ≤ length (now out) * 8 ⌝ }
+    ensures { λ r. ⌜ Wrote (now (out .entry)) pen (now (out .exit)) r (chunked b (take n (now (values .entry)))) × (r .have < 32)
+        × (drop n (now (values .exit)) ≡ drop n (now (values .entry))) ⌝ }
+{
+    let radix = radix_of(b);
+    let mut p = pen;
+    let mut left = n;
+    while left > 0 {
+        p = put_marks(out, p, radix, values, left);
+        let chunks = put_chunks(out, p, radix, values, left);
+        p = chunks.pen;
+        left = chunks.left;
+    }
+    p
+}
