@@ -8,9 +8,9 @@ use native.Mathlib.Omega.{arith}
 use lib.ListN.{length, take, drop, set, getD, replicate, length-set, length-append, take-append-drop}
 use lib.Seq.{take-at, drop-at, take-append-add, length-take-le, take-suc-set, drop-set-lt}
 use lib.Pow.{high, mod-pow-add, mod-mod-pow, shl-shr}
-use Rattle.codes.specs.declared.writing.Pen.{Pen}
+use Rattle.codes.specs.declared.writing.Writer.{Writer}
 use Rattle.codes.specs.Bits.{bits, number, fixed, bytesOf, bitsOf, bytesFor, padded}
-use Rattle.codes.specs.Pen.{written, Wrote}
+use Rattle.codes.specs.Written.{written, Wrote}
 use Rattle.codes.proofs.Bits.{bits-low, bits-mod, bits-split, length-bits, length-fixed, length-padded, fixed-append, number-bits, number-append}
 use Rattle.codes.proofs.Lists.{drop-later}
 
@@ -33,10 +33,10 @@ bits-join h m w a x l k =
 
 -- ---- writing, one after the other
 
-pub wrote-nothing : (o : List ℕ) (p : Pen) → Wrote o p o p []
+pub wrote-nothing : (o : List ℕ) (p : Writer) → Wrote o p o p []
 wrote-nothing o p = record { spelled = sym (append-nil (written o p)); later = refl; kept = refl; place = omega arith; onward = omega arith }
 
-pub wrote-both : {o r s : List ℕ} {p q t : Pen} {a b : List ℕ} → Wrote o p r q a → Wrote r q s t b → Wrote o p s t (a ++ b)
+pub wrote-both : {o r s : List ℕ} {p q t : Writer} {a b : List ℕ} → Wrote o p r q a → Wrote r q s t b → Wrote o p s t (a ++ b)
 wrote-both {o} {r} {s} {p} {q} {t} {a} {b} x y = record {
   spelled = y .spelled ∙ ap (λ (m : List ℕ). m ++ b) (x .spelled) ∙ append-assoc (written o p) a b;
   later = y .later ∙ drop-later r o (q .at) (x .later) (t .at) (y .onward);
@@ -46,7 +46,7 @@ wrote-both {o} {r} {s} {p} {q} {t} {a} {b} x y = record {
 }
 
 -- the bits of a number, to wait
-pub wrote-bits : (o : List ℕ) (p : Pen) (m w x v : ℕ) → p .have ≤ m → x < 2 ^ w → v ≡ p .acc % 2 ^ m * 2 ^ w + x
+pub wrote-bits : (o : List ℕ) (p : Writer) (m w x v : ℕ) → p .have ≤ m → x < 2 ^ w → v ≡ p .acc % 2 ^ m * 2 ^ w + x
     → Wrote o p o (record { at = p .at; have = p .have + w; acc = v }) (bits w x)
 wrote-bits o p m w x v l k q = record {
   spelled = rw (q, bits-join (p .have) m w (p .acc) x l k) (sym (append-assoc (bitsOf (take (p .at) o)) (bits (p .have) (p .acc)) (bits w x)));
@@ -143,8 +143,8 @@ padded-last xs n a h l k =
 
 -- ---- a whole part
 
--- the pen at the front
-abbrev pub front : Pen
+-- the writer at the front
+abbrev pub front : Writer
 front = record { at = 0; have = 0; acc = 0 }
 
 -- bits have room where their bytes do
@@ -152,7 +152,7 @@ pub bits-room : (bs out : List ℕ) → length (padded bs) ≤ length out → le
 bits-room bs out h = omega (arith, length-padded bs)
 
 -- bits written from the front, and finished
-pub wrote-part : {o r s : List ℕ} {q : Pen} {n : ℕ} {bs : List ℕ} → Wrote o front r q bs
+pub wrote-part : {o r s : List ℕ} {q : Writer} {n : ℕ} {bs : List ℕ} → Wrote o front r q bs
     → (n ≡ bytesFor (q .at * 8 + q .have)) × (take n s ≡ padded (written r q)) × (drop n s ≡ drop n r)
     → (n ≡ length (padded bs)) × (s ≡ padded bs ++ drop n o)
 unfolding fixed bits

@@ -10,10 +10,10 @@ use lib.Seq.{take-at, drop-at, take-append-le, drop-append-add}
 use lib.Dec.{eqb, ltb}
 use borrow.Author.Tests.{le-ltb, lt-ltb, ltb-false, eqb-true, eqb-false}
 use Rattle.codes.specs.Bits.{number, sum, fixed}
-use Rattle.codes.specs.Codes.{more, rest, layers}
-use Rattle.codes.specs.Fetch.{Fetched, value, outside, fixedAt, topped, fetchLayers, chunkedAt}
+use Rattle.codes.specs.Codes.{continuation, rest, layers}
+use Rattle.codes.specs.Fetch.{Fetched, value, outside, fixedAt, extended, fetchLayers, chunkedAt}
 use Rattle.codes.proofs.Bits.{length-fixed, fixed-at, number-bits}
-use Rattle.codes.proofs.Layers.{sum-more, rest-at, div-lt}
+use Rattle.codes.proofs.Layers.{sum-continuations, rest-at, div-lt}
 
 -- ---- fixed codes
 
@@ -39,7 +39,7 @@ sum-take-lt (x ∷ bs) (suc j) (suc n) h e = omega (arith, sum-take-lt bs j n (l
 abbrev pub layerOf : ℕ → ℕ → ℕ → List ℕ → Fetched → Fetched
 layerOf b n j bs d =
     cond (ltb (length bs) (n + n * b)) outside
-    (cond (eqb (getD bs j 0) 0) (value (number (take b (drop (n + j * b) bs)))) (topped b (number (take b (drop (n + j * b) bs))) d))
+    (cond (eqb (getD bs j 0) 0) (value (number (take b (drop (n + j * b) bs)))) (extended b (number (take b (drop (n + j * b) bs))) d))
 
 -- d counts only where the layer is whole and its bit j is set
 layer-same : (b n j : ℕ) (bs : List ℕ) (d e : Fetched) → (n + n * b ≤ length bs → eqb (getD bs j 0) 0 ≡ false → d ≡ e)
@@ -50,10 +50,10 @@ layer-same b n j bs d e same = go (ltb (length bs) (n + n * b)) (eqb (getD bs j 
     c = number (take b (drop (n + j * b) bs))
 
     go : (s t : Bool) → ltb (length bs) (n + n * b) ≡ s → eqb (getD bs j 0) 0 ≡ t
-        → cond s outside (cond t (value c) (topped b c d)) ≡ cond s outside (cond t (value c) (topped b c e))
+        → cond s outside (cond t (value c) (extended b c d)) ≡ cond s outside (cond t (value c) (extended b c e))
     go true t p q = refl
     go false true p q = refl
-    go false false p q = ap (topped b c) (same (ltb-false (length bs) (n + n * b) p) q)
+    go false false p q = ap (extended b c) (same (ltb-false (length bs) (n + n * b) p) q)
 
 -- more layers than bits change nothing
 pub enough : (f g b n j : ℕ) (bs : List ℕ) → length bs < f → length bs < g → j < n → fetchLayers f b n j bs ≡ fetchLayers g b n j bs
@@ -88,7 +88,7 @@ getD-map f (v ∷ vs) (suc j) h = getD-map f vs j (le-of-suc-le-suc h)
 one-layer : (g b j : ℕ) (m c z : List ℕ) → length c ≡ length m * b → j < length m
     → let v = number (take b (drop (j * b) (c ++ z))) in
     fetchLayers (suc g) b (length m) j (m ++ (c ++ z))
-    ≡ cond (eqb (getD m j 0) 0) (value v) (topped b v (fetchLayers g b (sum m) (sum (take j m)) z))
+    ≡ cond (eqb (getD m j 0) 0) (value v) (extended b v (fetchLayers g b (sum m) (sum (take j m)) z))
 unfolding fetchLayers
 one-layer g b j m c z lc h =
     rw (
@@ -104,21 +104,21 @@ one-layer g b j m c z lc h =
 -- value j of a layer, where a fetch of what is left of it gives that back
 layer-back : (f g b : ℕ) (vs : List ℕ) (j : ℕ) (after : List ℕ) → j < length vs
     → (eqb (getD vs j 0 / 2 ^ b) 0 ≡ false
-    → fetchLayers g b (length (rest b vs)) (sum (take j (map (more b) vs))) (layers f b (rest b vs) ++ after) ≡ value (getD vs j 0 / 2 ^ b))
+    → fetchLayers g b (length (rest b vs)) (sum (take j (map (continuation b) vs))) (layers f b (rest b vs) ++ after) ≡ value (getD vs j 0 / 2 ^ b))
     → fetchLayers (suc g) b (length vs) j (layers (suc f) b vs ++ after) ≡ value (getD vs j 0)
 unfolding layers
 layer-back f g b vs j after h ih =
     let x = getD vs j 0 in
-    let m = map (more b) vs in
+    let m = map (continuation b) vs in
     let z = layers f b (rest b vs) ++ after in
-    let lm : length m ≡ length vs = length-map vs (more b) in
+    let lm : length m ≡ length vs = length-map vs (continuation b) in
     let step = one-layer g b j m (fixed b vs) z (rw lm (length-fixed b vs)) (rw lm h) in
     rw (append-assoc m (fixed b vs ++ layers f b (rest b vs)) after, append-assoc (fixed b vs) (layers f b (rest b vs)) after)
-    (rw lm at step ∙ rw (fixed-at b vs j z h, number-bits b x, getD-map (more b) vs j h, sum-more b vs) (go (eqb (x / 2 ^ b) 0) refl))
+    (rw lm at step ∙ rw (fixed-at b vs j z h, number-bits b x, getD-map (continuation b) vs j h, sum-continuations b vs) (go (eqb (x / 2 ^ b) 0) refl))
   where
     go : (t : Bool) → eqb (getD vs j 0 / 2 ^ b) 0 ≡ t
         → cond (eqb (cond t 0 1) 0) (value (getD vs j 0 % 2 ^ b))
-        (topped b (getD vs j 0 % 2 ^ b) (fetchLayers g b (length (rest b vs)) (sum (take j (map (more b) vs))) (layers f b (rest b vs) ++ after)))
+        (extended b (getD vs j 0 % 2 ^ b) (fetchLayers g b (length (rest b vs)) (sum (take j (map (continuation b) vs))) (layers f b (rest b vs) ++ after)))
         ≡ value (getD vs j 0)
     go true e = ap value (omega (arith, mod-add-div (getD vs j 0) (2 ^ b), ap (λ (q : ℕ). 2 ^ b * q) (eqb-true (getD vs j 0 / 2 ^ b) 0 e)))
     go false e = rw (ih e) (ap value (omega (arith, mod-add-div (getD vs j 0) (2 ^ b))))
@@ -133,4 +133,4 @@ layers-back (suc f) (suc g) b vs j after hb hg hj hv =
     layer-back (suc f) (suc g) b vs j after hj (λ e.
     let r = rest-at b vs j hj e in
     let v = div-lt b (suc f) (getD vs j 0) hb hv in
-    layers-back f g b (rest b vs) (sum (take j (map (more b) vs))) after hb (le-of-suc-le-suc hg) (r .0) (rw (r .1) v) ∙ ap value (r .1))
+    layers-back f g b (rest b vs) (sum (take j (map (continuation b) vs))) after hb (le-of-suc-le-suc hg) (r .0) (rw (r .1) v) ∙ ap value (r .1))

@@ -10,29 +10,29 @@ use lib.Dec.{eqb}
 use lib.Pow.{pow-mono, shr-lt}
 use borrow.Author.Tests.{eq-eqb}
 use Rattle.codes.specs.Bits.{sum, fixed}
-use Rattle.codes.specs.Codes.{more, rest, layers, chunked, Within}
+use Rattle.codes.specs.Codes.{continuation, rest, layers, chunked, Within}
 use Rattle.codes.proofs.Bits.{Bits, bits-append, bits-fixed}
 
 -- ---- the continuation bits and what is left
 
 -- the ones among the continuation bits are as many as the values left
-pub sum-more : (b : ℕ) (vs : List ℕ) → sum (map (more b) vs) ≡ length (rest b vs)
+pub sum-continuations : (b : ℕ) (vs : List ℕ) → sum (map (continuation b) vs) ≡ length (rest b vs)
 unfolding sum rest
-sum-more b [] = refl
-sum-more b (v ∷ vs) = go (eqb (v / 2 ^ b) 0) (sum-more b vs)
+sum-continuations b [] = refl
+sum-continuations b (v ∷ vs) = go (eqb (v / 2 ^ b) 0) (sum-continuations b vs)
   where
-    go : (t : Bool) → sum (map (more b) vs) ≡ length (rest b vs)
-        → cond t 0 1 + sum (map (more b) vs) ≡ length (cond t (rest b vs) (v / 2 ^ b ∷ rest b vs))
+    go : (t : Bool) → sum (map (continuation b) vs) ≡ length (rest b vs)
+        → cond t 0 1 + sum (map (continuation b) vs) ≡ length (cond t (rest b vs) (v / 2 ^ b ∷ rest b vs))
     go true e = omega arith
     go false e = omega arith
 
 -- value j, where it goes on, is left at the place that the ones before j count
 pub rest-at : (b : ℕ) (vs : List ℕ) (j : ℕ) → j < length vs → eqb (getD vs j 0 / 2 ^ b) 0 ≡ false
-    → (sum (take j (map (more b) vs)) < length (rest b vs)) × (getD (rest b vs) (sum (take j (map (more b) vs))) 0 ≡ getD vs j 0 / 2 ^ b)
+    → (sum (take j (map (continuation b) vs)) < length (rest b vs)) × (getD (rest b vs) (sum (take j (map (continuation b) vs))) 0 ≡ getD vs j 0 / 2 ^ b)
 unfolding sum rest
 rest-at b [] j h e = absurd (not-suc-le-zero h)
 rest-at b (v ∷ vs) zero h e = rw e (omega arith, refl)
-rest-at b (v ∷ vs) (suc j) h e = go (eqb (v / 2 ^ b) 0) (sum (take j (map (more b) vs))) (rest-at b vs j (le-of-suc-le-suc h) e)
+rest-at b (v ∷ vs) (suc j) h e = go (eqb (v / 2 ^ b) 0) (sum (take j (map (continuation b) vs))) (rest-at b vs j (le-of-suc-le-suc h) e)
   where
     go : (t : Bool) (s : ℕ) → (s < length (rest b vs)) × (getD (rest b vs) s 0 ≡ getD vs j 0 / 2 ^ b)
         → (cond t 0 1 + s < length (cond t (rest b vs) (v / 2 ^ b ∷ rest b vs)))
@@ -83,17 +83,17 @@ layers-nil (suc f) b = layers-nil f b
 enough : (f b : ℕ) (vs : List ℕ) → 1 ≤ b → Within (suc f) vs → layers (suc (suc f)) b vs ≡ layers (suc f) b vs
 unfolding layers
 enough zero b vs hb h = rw (rest-none b vs (within-more 1 b vs hb h), layers-nil 1 b)
-enough (suc f) b vs hb h = ap (λ (l : List ℕ). map (more b) vs ++ (fixed b vs ++ l)) (enough f b (rest b vs) hb (within-rest b (suc f) vs hb h))
+enough (suc f) b vs hb h = ap (λ (l : List ℕ). map (continuation b) vs ++ (fixed b vs ++ l)) (enough f b (rest b vs) hb (within-rest b (suc f) vs hb h))
 
-pub chunked-step : (b : ℕ) (vs : List ℕ) → 1 ≤ b → Within 32 vs → chunked b vs ≡ map (more b) vs ++ (fixed b vs ++ chunked b (rest b vs))
+pub chunked-step : (b : ℕ) (vs : List ℕ) → 1 ≤ b → Within 32 vs → chunked b vs ≡ map (continuation b) vs ++ (fixed b vs ++ chunked b (rest b vs))
 unfolding layers
-chunked-step b vs hb h = ap (λ (l : List ℕ). map (more b) vs ++ (fixed b vs ++ l)) (sym (enough 30 b (rest b vs) hb (within-rest b 31 vs hb h)))
+chunked-step b vs hb h = ap (λ (l : List ℕ). map (continuation b) vs ++ (fixed b vs ++ l)) (sym (enough 30 b (rest b vs) hb (within-rest b 31 vs hb h)))
 
 -- ---- its elements are bits
 
-pub bits-more : (b : ℕ) (vs : List ℕ) → Bits (map (more b) vs)
-bits-more b [] = tt
-bits-more b (v ∷ vs) = (go (eqb (v / 2 ^ b) 0), bits-more b vs)
+pub bits-continuations : (b : ℕ) (vs : List ℕ) → Bits (map (continuation b) vs)
+bits-continuations b [] = tt
+bits-continuations b (v ∷ vs) = (go (eqb (v / 2 ^ b) 0), bits-continuations b vs)
   where
     go : (t : Bool) → cond t 0 1 < 2
     go true = omega arith
@@ -103,5 +103,5 @@ pub bits-layers : (f b : ℕ) (vs : List ℕ) → Bits (layers f b vs)
 unfolding layers
 bits-layers zero b vs = tt
 bits-layers (suc f) b vs =
-    bits-append (map (more b) vs) (fixed b vs ++ layers f b (rest b vs)) (bits-more b vs)
+    bits-append (map (continuation b) vs) (fixed b vs ++ layers f b (rest b vs)) (bits-continuations b vs)
     (bits-append (fixed b vs) (layers f b (rest b vs)) (bits-fixed b vs) (bits-layers f b (rest b vs)))

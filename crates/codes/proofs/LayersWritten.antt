@@ -12,34 +12,34 @@ use lib.Seq.{take-suc, take-add, length-take-le, take-set-le, take-suc-set}
 use lib.Pow.{pow-mono}
 use borrow.Author.Tests.{eqb-false}
 use Rattle.codes.specs.Bits.{bits, number, sum, fixed}
-use Rattle.codes.specs.Codes.{more, rest, chunked, Within}
+use Rattle.codes.specs.Codes.{continuation, rest, chunked, Within}
 use Rattle.codes.proofs.Bits.{bits-fixed, bits-number, length-bits, length-fixed, number-append, number-bits, number-lt, fixed-append}
-use Rattle.codes.proofs.Layers.{bits-more, rest-append, chunked-step}
+use Rattle.codes.proofs.Layers.{bits-continuations, rest-append, chunked-step}
 
 -- ---- continuation bits
 
 -- those of the first i values
-abbrev pub marks : ℕ → List ℕ → ℕ → List ℕ
-marks b vs i = map (more b) (take i vs)
+abbrev pub continuations : ℕ → List ℕ → ℕ → List ℕ
+continuations b vs i = map (continuation b) (take i vs)
 
 module _ (b : ℕ) (vs : List ℕ) (i : ℕ) (h : i ≤ length vs) where
-  pub length-marks : length (marks b vs i) ≡ i
-  length-marks = rw (length-map (take i vs) (more b), length-take-le i vs h)
+  pub length-continuations : length (continuations b vs i) ≡ i
+  length-continuations = rw (length-map (take i vs) (continuation b), length-take-le i vs h)
 
-  pub number-marks-lt : number (marks b vs i) < 2 ^ i
-  number-marks-lt = rw length-marks at (number-lt (marks b vs i) (bits-more b (take i vs)))
+  pub number-continuations-lt : number (continuations b vs i) < 2 ^ i
+  number-continuations-lt = rw length-continuations at (number-lt (continuations b vs i) (bits-continuations b (take i vs)))
 
-  pub bits-marks : bits i (number (marks b vs i)) ≡ marks b vs i
-  bits-marks = rw length-marks at (bits-number (marks b vs i) (bits-more b (take i vs)))
+  pub continuations-back : bits i (number (continuations b vs i)) ≡ continuations b vs i
+  continuations-back = rw length-continuations at (bits-number (continuations b vs i) (bits-continuations b (take i vs)))
 
-pub marks-add : (b : ℕ) (vs : List ℕ) (i k : ℕ) → marks b vs (i + k) ≡ marks b vs i ++ marks b (drop i vs) k
-marks-add b vs i k = rw (take-add i k vs) (map-append (more b) (take i vs) (take k (drop i vs)))
+pub continuations-add : (b : ℕ) (vs : List ℕ) (i k : ℕ) → continuations b vs (i + k) ≡ continuations b vs i ++ continuations b (drop i vs) k
+continuations-add b vs i k = rw (take-add i k vs) (map-append (continuation b) (take i vs) (take k (drop i vs)))
 
 -- one bit more
-pub number-marks-suc : (b : ℕ) (vs : List ℕ) (i : ℕ) → i < length vs → number (marks b vs i) * 2 + more b (getD vs i 0) ≡ number (marks b vs (i + 1))
+pub number-continuations-suc : (b : ℕ) (vs : List ℕ) (i : ℕ) → i < length vs → number (continuations b vs i) * 2 + continuation b (getD vs i 0) ≡ number (continuations b vs (i + 1))
 unfolding number
-number-marks-suc b vs i h =
-    rw (add-one i, take-suc vs i 0 h, map-append (more b) (take i vs) (getD vs i 0 ∷ []), number-append (marks b vs i) (more b (getD vs i 0) ∷ [])) (omega arith)
+number-continuations-suc b vs i h =
+    rw (add-one i, take-suc vs i 0 h, map-append (continuation b) (take i vs) (getD vs i 0 ∷ []), number-append (continuations b vs i) (continuation b (getD vs i 0) ∷ [])) (omega arith)
 
 -- ---- chunks
 
@@ -75,7 +75,7 @@ rest-add b vs i k = rw (take-add i k vs) (rest-append b (take i vs) (take k (dro
 
 -- value i of ws, stored after what is left of those before it, and counted where it goes on
 pub rest-suc : (b k i : ℕ) (vs ws front : List ℕ) → k < length vs → i < length ws → take k vs ≡ front ++ rest b (take i ws)
-    → take (k + more b (getD ws i 0)) (set vs k (getD ws i 0 / 2 ^ b)) ≡ front ++ rest b (take (i + 1) ws)
+    → take (k + continuation b (getD ws i 0)) (set vs k (getD ws i 0 / 2 ^ b)) ≡ front ++ rest b (take (i + 1) ws)
 unfolding rest
 rest-suc b k i vs ws front l h e =
     rw (add-one i, take-suc ws i 0 h, rest-append b (take i ws) (getD ws i 0 ∷ []), ← (append-assoc front (rest b (take i ws)) (rest b (getD ws i 0 ∷ []))), ← e) (go (eqb q 0))
@@ -112,5 +112,5 @@ layer-room b m vs bs total hb l h e =
 
 -- and with that layer written, the code of what is left remains
 pub layer-next : (b : ℕ) (vs r bs total : List ℕ) → 1 ≤ b → Within 32 vs → bs ++ chunked b vs ≡ total → r ≡ rest b vs
-    → ((bs ++ map (more b) vs) ++ fixed b vs) ++ chunked b r ≡ total
+    → ((bs ++ map (continuation b) vs) ++ fixed b vs) ++ chunked b r ≡ total
 layer-next b vs r bs total hb h e q = rw q (simp append-assoc (rw (chunked-step b vs hb h) at e))

@@ -12,7 +12,7 @@ use lib.Dec.{eqb}
 use lib.Pow.{pow-add, pow-mono}
 use borrow.Author.Tests.{le-ltb, lt-ltb, eq-eqb, ne-eqb}
 use Rattle.codes.specs.Bits.{number, sum}
-use Rattle.codes.specs.Fetch.{Fetched, value, outside, topped, within32, chunkedAt}
+use Rattle.codes.specs.Fetch.{Fetched, value, outside, extended, within32, chunkedAt}
 use Rattle.codes.proofs.Bits.{sum-take-add}
 use Rattle.codes.proofs.Fetches.{fetch-step}
 
@@ -21,16 +21,16 @@ use Rattle.codes.proofs.Fetches.{fetch-step}
 over : (v : ℕ) → 2 ^ 32 ≤ v → within32 (value v) ≡ outside
 over v h = rw (le-ltb v (2 ^ 32) h)
 
-over-topped : (s a : ℕ) (d : Fetched) → 2 ^ 32 ≤ a → within32 (topped s a d) ≡ outside
-over-topped s a (value v) h = over (a + 2 ^ s * v) (omega arith)
-over-topped s a outside h = refl
+over-extended : (s a : ℕ) (d : Fetched) → 2 ^ 32 ≤ a → within32 (extended s a d) ≡ outside
+over-extended s a (value v) h = over (a + 2 ^ s * v) (omega arith)
+over-extended s a outside h = refl
 
-pub start : (d : Fetched) → topped 0 0 d ≡ d
+pub start : (d : Fetched) → extended 0 0 d ≡ d
 start (value v) = ap value (omega arith)
 start outside = refl
 
 -- past 32 bits only whether there is anything counts
-cap : (s a : ℕ) (d : Fetched) → within32 (topped s a d) ≡ within32 (topped (min s 32) a d)
+cap : (s a : ℕ) (d : Fetched) → within32 (extended s a d) ≡ within32 (extended (min s 32) a d)
 cap s a outside = refl
 cap s a (value zero) = rw (mul-zero (2 ^ s), mul-zero (2 ^ min s 32))
 cap s a (value (suc v)) = elim (decLe s 32) [ yes h ↦ rw (min-eq-left h) | no h ↦ far (omega arith) ]
@@ -40,7 +40,7 @@ cap s a (value (suc v)) = elim (decLe s 32) [ yes h ↦ rw (min-eq-left h) | no 
         let p : 2 ^ 32 * 1 ≤ 2 ^ s * suc v = mul-le-mul {m₁ = 1} {m₂ = suc v} (pow-mono h) (omega arith) in
         over (a + 2 ^ s * suc v) (omega arith) ∙ sym (rw (min-eq-right h) (over (a + 2 ^ 32 * suc v) (omega arith)))
 
-next : (s b a c : ℕ) (d : Fetched) → within32 (topped s a (topped b c d)) ≡ within32 (topped (min (s + b) 32) (a + c * 2 ^ s) d)
+next : (s b a c : ℕ) (d : Fetched) → within32 (extended s a (extended b c d)) ≡ within32 (extended (min (s + b) 32) (a + c * 2 ^ s) d)
 next s b a c outside = refl
 next s b a c (value v) =
     let e : a + 2 ^ s * (c + 2 ^ b * v) ≡ a + c * 2 ^ s + 2 ^ (s + b) * v = rw pow-add (omega arith) in
@@ -63,7 +63,7 @@ first-one (x ∷ bs) (suc m) h z = let y : x * 1 + 0 ≡ 0 → ⊥ = z in omega 
 
 -- what a fetch answers that stands at the layer from bit `at` on, at value k of its n, and has found a, below bit s
 abbrev pub answer : List ℕ → ℕ → ℕ → ℕ → ℕ → ℕ → ℕ → Fetched
-answer bs b at n k s a = within32 (topped s a (chunkedAt b n k (drop at bs)))
+answer bs b at n k s a = within32 (extended s a (chunkedAt b n k (drop at bs)))
 
 -- the chunk there
 abbrev pub chunkAt : List ℕ → ℕ → ℕ → ℕ → ℕ → ℕ
@@ -79,7 +79,7 @@ module _ (bs : List ℕ) (b at n k s a : ℕ) (hk : k < n) (hat : at ≤ length 
 
   module _ (whole : n + n * b ≤ length bs - at) where
     layer-there : chunkedAt b n k (drop at bs)
-        ≡ cond (eqb (number (take 1 (drop (at + k) bs))) 0) (value (chunkAt bs b at n k)) (topped b (chunkAt bs b at n k) (deeper bs b at n k))
+        ≡ cond (eqb (number (take 1 (drop (at + k) bs))) 0) (value (chunkAt bs b at n k)) (extended b (chunkAt bs b at n k) (deeper bs b at n k))
     layer-there =
         let e : at + (n + k * b) ≡ at + n + k * b = omega arith in
         let e' : at + (n + n * b) ≡ at + n + n * b = omega arith in
@@ -110,9 +110,9 @@ module _ (bs : List ℕ) (b at n k s a : ℕ) (hk : k < n) (hat : at ≤ length 
         c : ℕ
         c = chunkAt bs b at n k
 
-        go : (t : Bool) → within32 (topped s a (cond t (value c) (topped b c (deeper bs b at n k)))) ≡ outside
+        go : (t : Bool) → within32 (extended s a (cond t (value c) (extended b c (deeper bs b at n k)))) ≡ outside
         go true = rw (mul-comm (2 ^ s) c) (over (a + c * 2 ^ s) h)
-        go false = next s b a c (deeper bs b at n k) ∙ over-topped (min (s + b) 32) (a + c * 2 ^ s) (deeper bs b at n k) h
+        go false = next s b a c (deeper bs b at n k) ∙ over-extended (min (s + b) 32) (a + c * 2 ^ s) (deeper bs b at n k) h
 
     -- the next layer has the ones before value k, and those from it on, of which it is one
     pub answer-more : (number (take 1 (drop (at + k) bs)) ≡ 0 → ⊥)

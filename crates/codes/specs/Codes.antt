@@ -13,8 +13,8 @@ unfoldable pub kindOf : ℕ → Kind
 kindOf code = cond (ltb code 33) (Fixed code) (cond (ltb code 65) Refused (cond (ltb code 73) (Chunked (code - 64)) Refused))
 
 -- the continuation bit of v: 1 where another chunk follows its lowest b bits
-abbrev pub more : ℕ → ℕ → ℕ
-more b v = cond (eqb (v / 2 ^ b) 0) 0 1
+abbrev pub continuation : ℕ → ℕ → ℕ
+continuation b v = cond (eqb (v / 2 ^ b) 0) 0 1
 
 -- what the values have above their lowest b bits, of those that have anything there
 unfoldable pub rest : ℕ → List ℕ → List ℕ
@@ -25,7 +25,7 @@ rest b (v ∷ vs) = cond (eqb (v / 2 ^ b) 0) (rest b vs) (v / 2 ^ b ∷ rest b v
 -- next layer has the values that go on.
 unfoldable pub layers : ℕ → ℕ → List ℕ → List ℕ
 layers zero b vs = []
-layers (suc f) b vs = map (more b) vs ++ (fixed b vs ++ layers f b (rest b vs))
+layers (suc f) b vs = map (continuation b) vs ++ (fixed b vs ++ layers f b (rest b vs))
 
 -- The chunked code. A chunk takes at least one bit off a value, so 32 layers are enough; `chunked-step` in proofs/Layers
 -- has the equation without their number.

@@ -26,9 +26,9 @@ unfoldable pub fixedAt : ℕ → ℕ → List ℕ → Fetched
 fixedAt w j bs = cond (ltb (length bs) ((j + 1) * w)) outside (value (number (take w (drop (j * w) bs))))
 
 -- the value with lowest chunk c, of b bits, and what is found above it
-abbrev pub topped : ℕ → ℕ → Fetched → Fetched
-topped b c (value v) = value (c + 2 ^ b * v)
-topped b c outside = outside
+abbrev pub extended : ℕ → ℕ → Fetched → Fetched
+extended b c (value v) = value (c + 2 ^ b * v)
+extended b c outside = outside
 
 -- Chunked: the layer must lie whole in the part. Where the continuation bit is 1 the value goes on in the next layer, which
 -- has as many values as there are ones, at the place that the ones before it count.
@@ -36,7 +36,7 @@ unfoldable pub fetchLayers : ℕ → ℕ → ℕ → ℕ → List ℕ → Fetche
 fetchLayers zero b count j bs = outside
 fetchLayers (suc f) b count j bs =
     let c = number (take b (drop (count + j * b) bs)) in
-    let above = topped b c (fetchLayers f b (sum (take count bs)) (sum (take j bs)) (drop (count + count * b) bs)) in
+    let above = extended b c (fetchLayers f b (sum (take count bs)) (sum (take j bs)) (drop (count + count * b) bs)) in
     cond (ltb (length bs) (count + count * b)) outside (cond (eqb (getD bs j 0) 0) (value c) above)
 
 -- Every layer takes at least one bit, so there are no more layers than bits; `fetch-step` in proofs/Fetches has the equation

@@ -3,7 +3,7 @@ use super::kinds::Kind;
 use super::kinds::kind_of;
 use super::layering::put_layers;
 use super::reading::low_bits;
-use super::writing::Pen;
+use super::writing::Writer;
 use super::writing::finish;
 use super::writing::put;
 use super::writing::wide;
@@ -13,15 +13,15 @@ ghost use Prim.Native.Nat.{_+_, _*_, _<_, _≤_};
 ghost use lib.ListN.{length, drop, replicate};
 ghost use Rattle.codes.specs.Bits.{fixed};
 ghost use Rattle.codes.specs.Codes.{kindOf, part, Holds, worked};
-ghost use Rattle.codes.specs.Pen.{Wrote};
+ghost use Rattle.codes.specs.Written.{Wrote};
 
 // Writes each value in `w` bits.
-fn put_fixed(out: &mut [u8], pen: Pen, w: usize, values: &[u32]) -> Pen
-    requires { ⌜ (w ≤ 32) × (pen .have < 32) ⌝ }
-    requires { ⌜ pen .at * 8 + pen .have + length (now values) * w ≤ length (now out) * 8 ⌝ }
-    ensures { λ r. ⌜ Wrote (now (out .entry)) pen (now (out .exit)) r (fixed w (now (values .entry))) × (r .have < 32) ⌝ }
+fn put_fixed(out: &mut [u8], writer: Writer, w: usize, values: &[u32]) -> Writer
+    requires { ⌜ (w ≤ 32) × (writer .have < 32) ⌝ }
+    requires { ⌜ writer .at * 8 + writer .have + length (now values) * w ≤ length (now out) * 8 ⌝ }
+    ensures { λ r. ⌜ Wrote (now (out .entry)) writer (now (out .exit)) r (fixed w (now (values .entry))) × (r .have < 32) ⌝ }
 {
-    let mut p = pen;
+    let mut p = writer;
     let mut i: usize = 0;
     while i < values.len() {
         p = put(out, p, w, low_bits(wide(values[i]), w));
@@ -62,7 +62,7 @@ pub fn encode(out: &mut [u8], work: &mut [u32], values: &[u32], code: u8) -> usi
     ensures { λ r. ⌜ now (work .exit) ≡ worked (kindOf code) (length (now (values .entry))) (now (work .entry)) ⌝ }
 {
     let n = values.len();
-    let start = Pen {
+    let start = Writer {
         at: 0,
         have: 0,
         acc: 0,

@@ -1,6 +1,6 @@
 // The layers of a chunked code, written one after the other.
 use super::reading::least;
-use super::writing::Pen;
+use super::writing::Writer;
 use super::writing::put;
 use super::writing::wide;
 ghost use mathlib.Core.Path.{_≡_};
@@ -8,8 +8,8 @@ ghost use mathlib.Core.List.{_++_, map};
 ghost use Prim.Native.Nat.{_+_, _*_, _%_, _^_, _<_, _≤_};
 ghost use lib.ListN.{length, take, drop};
 ghost use Rattle.codes.specs.Bits.{number, fixed};
-ghost use Rattle.codes.specs.Codes.{more, rest, chunked, Within};
-ghost use Rattle.codes.specs.Pen.{Wrote};
+ghost use Rattle.codes.specs.Codes.{continuation, rest, chunked, Within};
+ghost use Rattle.codes.specs.Written.{Wrote};
 
 // The width of a chunk, and 2 to its power.
 struct Radix {
@@ -39,38 +39,44 @@ fn chunk_of(v: u32, radix: Radix) -> u64
 }
 
 // The continuation bit of `v`: 1 where another chunk follows the lowest.
-fn more_bit(v: u32, radix: Radix) -> u64
+fn continuation_bit(v: u32, radix: Radix) -> u64
     requires { ⌜ radix .power ≡ 2 ^ (radix .bits) ⌝ }
-    ensures { λ r. ⌜ (r < 2) × (r ≡ more (radix .bits) v) ⌝ }
+    ensures { λ r. ⌜ (r < 2) × (r ≡ continuation (radix .bits) v) ⌝ }
 {
     if wide(v) < radix.power { 0 } else { 1 }
 }
 
 // The number that the continuation bits of `n` values from value `from` on spell.
-fn joined_marks(values: &[u32], from: usize, n: usize, radix: Radix) -> u64
+fn joined_continuations(values: &[u32], from: usize, n: usize, radix: Radix) -> u64
     requires { ⌜ (from + n ≤ length (now values)) × (n ≤ 32) × (radix .power ≡ 2 ^ (radix .bits)) ⌝ }
-    ensures { λ r. ⌜ r ≡ number (map (more (radix .bits)) (take n (drop from (now (values .entry))))) ⌝ }
+    ensures { λ r. ⌜ r ≡ number (map (continuation (radix .bits)) (take n (drop from (now (values .entry))))) ⌝ }
 {
     let mut joined: u64 = 0;
     let mut i: usize = 0;
     while i < n {
-        joined = joined * 2 + more_bit(values[from + i], radix);
+        joined = joined * 2 + continuation_bit(values[from + i], radix);
         i += 1;
     }
     joined
 }
 
 // Writes the continuation bits of the first `n` values, 32 at a time.
-fn put_marks(out: &mut [u8], pen: Pen, radix: Radix, values: &[u32], n: usize) -> Pen
-    requires { ⌜ (radix .power ≡ 2 ^ (radix .bits)) × (pen .have < 32) × (n ≤ length (now values)) ⌝ }
-    requires { ⌜ pen .at * 8 + pen .have + n ≤ length (now out) * 8 ⌝ }
-    ensures { λ r. ⌜ Wrote (now (out .entry)) pen (now (out .exit)) r (map (more (radix .bits)) (take n (now (values .entry)))) × (r .have < 32) ⌝ }
+fn put_continuations(
+    out: &mut [u8],
+    writer: Writer,
+    radix: Radix,
+    values: &[u32],
+    n: usize,
+) -> Writer
+    requires { ⌜ (radix .power ≡ 2 ^ (radix .bits)) × (writer .have < 32) × (n ≤ length (now values)) ⌝ }
+    requires { ⌜ writer .at * 8 + writer .have + n ≤ length (now out) * 8 ⌝ }
+    ensures { λ r. ⌜ Wrote (now (out .entry)) writer (now (out .exit)) r (map (continuation (radix .bits)) (take n (now (values .entry)))) × (r .have < 32) ⌝ }
 {
-    let mut p = pen;
+    let mut p = writer;
     let mut i: usize = 0;
     while i < n {
         let k = least(n - i, 32);
-        p = put(out, p, k, joined_marks(values, i, k, radix));
+        p = put(out, p, k, joined_continuations(values, i, k, radix));
         i += k;
     }
     p
@@ -99,7 +105,7 @@ fn joined_chunks(values: &mut [u32], from: usize, n: usize, radix: Radix, left: 
         let v = values[from + i];
         joined = joined * power + chunk_of(v, radix);
         values[kept] = v >> b;
-        kept += more_bit(v, radix) as usize;
+        kept += continuation_bit(v, radix) as usize;
         i += 1;
     }
     Group {
@@ -108,24 +114,24 @@ fn joined_chunks(values: &mut [u32], from: usize, n: usize, radix: Radix, left: 
     }
 }
 
-// A pen, and how many values go on in the next layer.
+// A writer, and how many values go on in the next layer.
 struct Chunks {
-    pen: Pen,
+    writer: Writer,
     left: usize,
 }
 
 // Writes the lowest chunks of the first `n` values, as many at a time as go into 32 bits, and leaves what these values have
 // above at the front.
-fn put_chunks(out: &mut [u8], pen: Pen, radix: Radix, values: &mut [u32], n: usize) -> Chunks
-    requires { ⌜ (1 ≤ radix .bits) × (radix .bits ≤ 8) × (radix .power ≡ 2 ^ (radix .bits)) × (pen .have < 32) × (n ≤ length (now values)) ⌝ }
-    requires { ⌜ pen .at * 8 + pen .have + n * radix .bits ≤ length (now out) * 8 ⌝ }
-    ensures { λ r. ⌜ Wrote (now (out .entry)) pen (now (out .exit)) (r .pen) (fixed (radix .bits) (take n (now (values .entry)))) × (r .pen .have < 32)
+fn put_chunks(out: &mut [u8], writer: Writer, radix: Radix, values: &mut [u32], n: usize) -> Chunks
+    requires { ⌜ (1 ≤ radix .bits) × (radix .bits ≤ 8) × (radix .power ≡ 2 ^ (radix .bits)) × (writer .have < 32) × (n ≤ length (now values)) ⌝ }
+    requires { ⌜ writer .at * 8 + writer .have + n * radix .bits ≤ length (now out) * 8 ⌝ }
+    ensures { λ r. ⌜ Wrote (now (out .entry)) writer (now (out .exit)) (r .writer) (fixed (radix .bits) (take n (now (values .entry)))) × (r .writer .have < 32)
         × (r .left ≤ n) × (take (r .left) (now (values .exit)) ≡ rest (radix .bits) (take n (now (values .entry))))
         × (drop n (now (values .exit)) ≡ drop n (now (values .entry))) ⌝ }
 {
     let b = radix.bits;
     let room = 32 / b;
-    let mut p = pen;
+    let mut p = writer;
     let mut left: usize = 0;
     let mut i: usize = 0;
     while i < n {
@@ -135,23 +141,32 @@ fn put_chunks(out: &mut [u8], pen: Pen, radix: Radix, values: &mut [u32], n: usi
         left = group.left;
         i += k;
     }
-    Chunks { pen: p, left: left }
+    Chunks {
+        writer: p,
+        left: left,
+    }
 }
 
 // Writes the layers of the first `n` values, as long as a value goes on, and uses these values up.
-pub(crate) fn put_layers(out: &mut [u8], pen: Pen, b: usize, values: &mut [u32], n: usize) -> Pen
-    requires { ⌜ (1 ≤ b) × (b ≤ 8) × (pen .have < 32) × (n ≤ length (now values)) × Within 32 (take n (now values)) ⌝ }
-    requires { ⌜ pen .at * 8 + pen .have + length (chunked b (take n (now values))) ≤ length (now out) * 8 ⌝ }
-    ensures { λ r. ⌜ Wrote (now (out .entry)) pen (now (out .exit)) r (chunked b (take n (now (values .entry)))) × (r .have < 32)
+pub(crate) fn put_layers(
+    out: &mut [u8],
+    writer: Writer,
+    b: usize,
+    values: &mut [u32],
+    n: usize,
+) -> Writer
+    requires { ⌜ (1 ≤ b) × (b ≤ 8) × (writer .have < 32) × (n ≤ length (now values)) × Within 32 (take n (now values)) ⌝ }
+    requires { ⌜ writer .at * 8 + writer .have + length (chunked b (take n (now values))) ≤ length (now out) * 8 ⌝ }
+    ensures { λ r. ⌜ Wrote (now (out .entry)) writer (now (out .exit)) r (chunked b (take n (now (values .entry)))) × (r .have < 32)
         × (drop n (now (values .exit)) ≡ drop n (now (values .entry))) ⌝ }
 {
     let radix = radix_of(b);
-    let mut p = pen;
+    let mut p = writer;
     let mut left = n;
     while left > 0 {
-        p = put_marks(out, p, radix, values, left);
+        p = put_continuations(out, p, radix, values, left);
         let chunks = put_chunks(out, p, radix, values, left);
-        p = chunks.pen;
+        p = chunks.writer;
         left = chunks.left;
     }
     p

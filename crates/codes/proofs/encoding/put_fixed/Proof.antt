@@ -6,7 +6,7 @@ use native.Mathlib.Nat.{mul-le-mul-right}
 use lib.ListN.{length, take, getD}
 use lib.Seq.{take-length}
 use Rattle.codes.specs.Bits.{fixed}
-use Rattle.codes.specs.Pen.{Wrote}
+use Rattle.codes.specs.Written.{Wrote}
 use Rattle.codes.proofs.Bits.{bits-mod}
 use Rattle.codes.proofs.BitsWritten.{wrote-nothing, wrote-both}
 use Rattle.codes.proofs.LayersWritten.{fixed-suc, length-fixed-take}
@@ -23,7 +23,7 @@ loop-holds : tie.Need-loop-holds Inv-loop μ-loop
 unfolding fixed
 loop-holds c =
     let a = c .before .before .args in
-    (omega arith, wrote-nothing (a .out .now) (a .pen), omega arith)
+    (omega arith, wrote-nothing (a .out .now) (a .writer), omega arith)
 
 mul-wide : tie.Need-mul-wide Inv-loop μ-loop
 mul-wide c = omega arith

@@ -81,8 +81,8 @@ mul-values c = omega arith
 slice-write-values : tie.Need-slice-write-values Inv-loop μ-loop
 slice-write-values c = omega arith
 
-more-bit-requires : tie.Need-more-bit-requires Inv-loop μ-loop
-more-bit-requires c κs = omega arith
+continuation-bit-requires : tie.Need-continuation-bit-requires Inv-loop μ-loop
+continuation-bit-requires c κs = omega arith
 
 add-kept : tie.Need-add-kept Inv-loop μ-loop
 add-kept c = omega arith
@@ -108,7 +108,7 @@ loop-again c =
       omega arith,
       length-set (l .values) (l .kept) q ∙ l .inv .2,
       rw k (drop-set-lt (at + 1) (l .values) (l .kept) q (omega arith) ∙ drop-later (l .values) us at (l .inv .3) (at + 1) (omega arith)),
-      rw (c .more-bit .ensures .1, e) (rest-suc (a .radix .bits) (l .kept) (l .i) (l .values) ws (take (a .left) us) (omega arith) (simp length-drop (omega arith)) (l .inv .4)),
+      rw (c .continuation-bit .ensures .1, e) (rest-suc (a .radix .bits) (l .kept) (l .i) (l .values) ws (take (a .left) us) (omega arith) (simp length-drop (omega arith)) (l .inv .4)),
       rw (c .before .before .before .before .before .before .pre .0 .1, c .before .chunk-of .ensures, l .inv .5) (m .0),
       rw (c .before .before .before .before .before .before .pre .0 .1, c .before .chunk-of .ensures, l .inv .5) (m .1),
     )
@@ -139,7 +139,7 @@ joined-chunks-spec =
     shr-values
     mul-values
     slice-write-values
-    more-bit-requires
+    continuation-bit-requires
     add-kept
     add-i
     loop-less

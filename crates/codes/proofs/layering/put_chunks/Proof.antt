@@ -6,7 +6,7 @@ use native.Mathlib.Nat.{le-trans, mul-le-mul-right, add-mul, div-mul-le-self, le
 use lib.ListN.{length, take, drop, length-drop}
 use Rattle.codes.specs.Bits.{fixed}
 use Rattle.codes.specs.Codes.{rest}
-use Rattle.codes.specs.Pen.{Wrote}
+use Rattle.codes.specs.Written.{Wrote}
 use Rattle.codes.proofs.BitsWritten.{wrote-nothing, wrote-both}
 use Rattle.codes.proofs.LayersWritten.{fixed-add, length-fixed-take, number-fixed-lt, bits-fixed-take, rest-add}
 use Rattle.codes.proofs.Lists.{drop-later}
@@ -35,7 +35,7 @@ loop-holds : tie.Need-loop-holds Inv-loop μ-loop
 unfolding fixed rest
 loop-holds c =
     let a = c .before .before .args in
-    (omega arith, omega arith, refl, refl, refl, wrote-nothing (a .out .now) (a .pen), omega arith)
+    (omega arith, omega arith, refl, refl, refl, wrote-nothing (a .out .now) (a .writer), omega arith)
 
 sub-least : tie.Need-sub-least Inv-loop μ-loop
 sub-least c = omega arith

@@ -7,10 +7,10 @@ use lib.ListN.{length, take, drop}
 use lib.Seq.{length-take-le}
 use Rattle.codes.specs.Bits.{sum}
 use Rattle.codes.specs.Codes.{rest, chunked, Within}
-use Rattle.codes.specs.Pen.{Wrote}
+use Rattle.codes.specs.Written.{Wrote}
 use Rattle.codes.proofs.BitsWritten.{wrote-nothing, wrote-both}
 use Rattle.codes.proofs.Layers.{layers-nil, within-rest, within-more}
-use Rattle.codes.proofs.LayersWritten.{length-marks, rest-sum, layer-room, layer-next}
+use Rattle.codes.proofs.LayersWritten.{length-continuations, rest-sum, layer-room, layer-next}
 use Rattle.codes.proofs.Lists.{drop-later}
 use Rattle.codes.proofs.layering.put_layers.Statement.{statement}
 use Rattle.codes.proofs.layering.put_layers.Tie as tie
@@ -29,10 +29,10 @@ radix-of-requires c κs = omega arith
 loop-holds : tie.Need-loop-holds Inv-loop μ-loop
 loop-holds c =
     let s = c .before .before .before in
-    (omega arith, refl, refl, s .pre .0 .4, omega arith, ([], wrote-nothing (s .args .out .now) (s .args .pen), refl))
+    (omega arith, refl, refl, s .pre .0 .4, omega arith, ([], wrote-nothing (s .args .out .now) (s .args .writer), refl))
 
-put-marks-requires : tie.Need-put-marks-requires Inv-loop μ-loop
-put-marks-requires c κs =
+put-continuations-requires : tie.Need-put-continuations-requires Inv-loop μ-loop
+put-continuations-requires c κs =
     let l = c .before .before .before .loop in
     let r = c .before .before .before .before .radix-of .ensures in
     let b = c .before .before .before .before .before .before .before .args .b in
@@ -46,9 +46,9 @@ put-chunks-requires c κs =
     let r = m .before .before .before .before .before .radix-of .ensures in
     let b = m .before .before .before .before .before .before .before .before .args .b in
     let w = l .inv .5 .1 in
-    let u = rw (r .0) at (m .put-marks .ensures .0) in
+    let u = rw (r .0) at (m .put-continuations .ensures .0) in
     rw (r .0, r .1)
-    (omega (arith, layer-room b (l .left) (l .values) (l .inv .5 .0) _ (omega arith) (omega arith) (l .inv .3) (l .inv .5 .2), length-marks b (l .values) (l .left) (omega arith)))
+    (omega (arith, layer-room b (l .left) (l .values) (l .inv .5 .0) _ (omega arith) (omega arith) (l .inv .3) (l .inv .5 .2), length-continuations b (l .values) (l .left) (omega arith)))
 
 loop-less : tie.Need-loop-less Inv-loop μ-loop
 loop-less c =
@@ -83,7 +83,7 @@ loop-again c =
       k .ensures .1,
       (
         _,
-        wrote-both (wrote-both (l .inv .5 .1) (rw r at (m .put-marks .ensures .0))) (rw r at (k .ensures .0)),
+        wrote-both (wrote-both (l .inv .5 .1) (rw r at (m .put-continuations .ensures .0))) (rw r at (k .ensures .0)),
         layer-next (a .b) us (take (k .result .left) vs) (l .inv .5 .0) _ (g .0) (l .inv .3) (l .inv .5 .2) e,
       ),
     )
@@ -109,7 +109,7 @@ put-layers-spec =
     μ-loop
     radix-of-requires
     loop-holds
-    put-marks-requires
+    put-continuations-requires
     put-chunks-requires
     loop-less
     loop-again

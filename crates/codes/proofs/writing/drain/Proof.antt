@@ -3,19 +3,19 @@ use native.Mathlib.Omega.{arith}
 use mathlib.Core.Path.{refl}
 use mathlib.Core.List.{[]}
 use Prim.Native.Nat.{_+_, _-_, _<_}
-use Rattle.codes.specs.Pen.{Wrote}
+use Rattle.codes.specs.Written.{Wrote}
 use Rattle.codes.proofs.BitsWritten.{wrote-nothing, wrote-both, wrote-byte}
 use Rattle.codes.proofs.writing.drain.Statement.{statement}
 use Rattle.codes.proofs.writing.drain.Tie as tie
 
 abbrev Inv-loop : tie.InvT-loop
-Inv-loop out₀ pen at₀ have₀ out at have = (have < 32) × Wrote out₀ pen out (record { at = at; have = have; acc = pen .acc }) []
+Inv-loop out₀ writer at₀ have₀ out at have = (have < 32) × Wrote out₀ writer out (record { at = at; have = have; acc = writer .acc }) []
 
 abbrev μ-loop : tie.MeasureT-loop
-μ-loop out₀ pen at₀ have₀ out at have = have
+μ-loop out₀ writer at₀ have₀ out at have = have
 
 loop-holds : tie.Need-loop-holds Inv-loop μ-loop
-loop-holds c = (omega arith, wrote-nothing (c .before .args .out .now) (c .before .args .pen))
+loop-holds c = (omega arith, wrote-nothing (c .before .args .out .now) (c .before .args .writer))
 
 byte-above-requires : tie.Need-byte-above-requires Inv-loop μ-loop
 byte-above-requires c κs = omega arith
@@ -32,7 +32,7 @@ loop-less c = omega arith
 loop-again : tie.Need-loop-again Inv-loop μ-loop
 loop-again c =
     let l = c .before .before .loop in
-    let acc = c .before .before .before .before .args .pen .acc in (
+    let acc = c .before .before .before .before .args .writer .acc in (
       omega arith,
       wrote-both (l .inv .1)
           (wrote-byte (l .out) (l .at) (l .at + 1) (l .have) (l .have - 8) acc (c .byte-above .result) (omega arith) refl (omega arith) (c .byte-above .ensures)),

@@ -7,7 +7,7 @@ use native.Mathlib.Numerals.{add-one}
 use lib.ListN.{length, take, set}
 use lib.Seq.{drop-set-lt, take-suc-set}
 use Rattle.codes.specs.Bits.{padded}
-use Rattle.codes.specs.Pen.{written}
+use Rattle.codes.specs.Written.{written}
 use Rattle.codes.proofs.BitsWritten.{bytes-take, padded-whole, padded-last}
 use Rattle.codes.proofs.Lists.{drop-later}
 use borrow.Author.Needs.{needs}
@@ -30,7 +30,7 @@ returns c =
     let z : q .have ≡ 0 = omega arith in
     let f = bytes-take (q .at) o (λ i. c .before .slice-known2 .given i .fits) in
     let s : padded (written o q) ≡ take (q .at) o = rw z (padded-whole (take (q .at) o) (q .acc) f) in
-    (omega arith, sym s ∙ ap padded (w .spelled ∙ append-nil (written (a .out .now) (a .pen))), w .later)
+    (omega arith, sym s ∙ ap padded (w .spelled ∙ append-nil (written (a .out .now) (a .writer))), w .later)
 
 sub-byte-above : tie.Need-sub-byte-above
 sub-byte-above c = search needs
@@ -63,7 +63,7 @@ returns-2 c =
     let s : take (q .at + 1) (set o (q .at) (b .result)) ≡ padded (written o q) =
     rw (add-one (q .at), take-suc-set o (q .at) (b .result) l, b .ensures) (sym (padded-last (take (q .at) o) (q .have) (q .acc) f (omega arith) (omega arith))) in (
       omega arith,
-      s ∙ ap padded (w .spelled ∙ append-nil (written (a .out .now) (a .pen))),
+      s ∙ ap padded (w .spelled ∙ append-nil (written (a .out .now) (a .writer))),
       drop-set-lt (q .at + 1) o (q .at) (b .result) (omega arith) ∙ drop-later o (a .out .now) (q .at) (w .later) (q .at + 1) (omega arith),
     )
 

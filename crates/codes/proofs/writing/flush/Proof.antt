@@ -58,8 +58,8 @@ same-length c = search needs
 returns : tie.Need-returns
 returns c =
     let a = c .before .before .before .before .before .before .before .args in
-    let at = a .pen .at in
-    let h = a .pen .have - 32 in
+    let at = a .writer .at in
+    let h = a .writer .have - 32 in
     let o = a .out .now in
     let b₁ = c .before .before .before .byte-above in
     let b₂ = c .before .before .byte-above2 in
@@ -71,10 +71,10 @@ returns c =
       wrote-both
           (wrote-both
           (wrote-both
-          (wrote-byte o at (at + 1) (a .pen .have) (h + 24) (a .pen .acc) (b₁ .result) (omega arith) refl (omega arith) (b₁ .ensures ∙ rw (shr-shr (a .pen .acc) h 24)))
-          (wrote-byte o₁ (at + 1) (at + 2) (h + 24) (h + 16) (a .pen .acc) (b₂ .result) (simp length-set (omega arith)) (omega arith) (omega arith) (b₂ .ensures ∙ rw (shr-shr (a .pen .acc) h 16))))
-          (wrote-byte o₂ (at + 2) (at + 3) (h + 16) (h + 8) (a .pen .acc) (b₃ .result) (simp length-set (omega arith)) (omega arith) (omega arith) (b₃ .ensures ∙ rw (shr-shr (a .pen .acc) h 8))))
-          (wrote-byte o₃ (at + 3) (at + 4) (h + 8) h (a .pen .acc) (b₄ .result) (simp length-set (omega arith)) (omega arith) (omega arith) (b₄ .ensures ∙ rw (div-one (a .pen .acc / 2 ^ h)))),
+          (wrote-byte o at (at + 1) (a .writer .have) (h + 24) (a .writer .acc) (b₁ .result) (omega arith) refl (omega arith) (b₁ .ensures ∙ rw (shr-shr (a .writer .acc) h 24)))
+          (wrote-byte o₁ (at + 1) (at + 2) (h + 24) (h + 16) (a .writer .acc) (b₂ .result) (simp length-set (omega arith)) (omega arith) (omega arith) (b₂ .ensures ∙ rw (shr-shr (a .writer .acc) h 16))))
+          (wrote-byte o₂ (at + 2) (at + 3) (h + 16) (h + 8) (a .writer .acc) (b₃ .result) (simp length-set (omega arith)) (omega arith) (omega arith) (b₃ .ensures ∙ rw (shr-shr (a .writer .acc) h 8))))
+          (wrote-byte o₃ (at + 3) (at + 4) (h + 8) h (a .writer .acc) (b₄ .result) (simp length-set (omega arith)) (omega arith) (omega arith) (b₄ .ensures ∙ rw (div-one (a .writer .acc / 2 ^ h)))),
       omega arith,
     )
 

@@ -18,7 +18,7 @@ returns : tie.Need-returns
 returns c =
     let a = c .before .before .before .before .before .args in
     let j = c .before .before .join in
-    (wrote-bits (a .out .now) (a .pen) (64 - a .w) (a .w) (a .x) (j .result) (omega arith) (omega arith) (j .ensures), omega arith)
+    (wrote-bits (a .out .now) (a .writer) (64 - a .w) (a .w) (a .x) (j .result) (omega arith) (omega arith) (j .ensures), omega arith)
 
 flush-requires : tie.Need-flush-requires
 flush-requires c κs = search needs
@@ -31,7 +31,7 @@ returns-2 c =
     let a = c .before .before .before .before .before .before .before .before .before .args in
     let j = c .before .before .before .before .before .before .join in
     let f = c .before .before .flush .ensures in
-    let b = wrote-bits (a .out .now) (a .pen) (64 - a .w) (a .w) (a .x) (j .result) (omega arith) (omega arith) (j .ensures) in
+    let b = wrote-bits (a .out .now) (a .writer) (64 - a .w) (a .w) (a .x) (j .result) (omega arith) (omega arith) (j .ensures) in
     (rw (append-nil (bits (a .w) (a .x))) at (wrote-both b (f .0)), f .1)
 
 pub put-spec : {M : Type 1} → statement M

@@ -1,12 +1,12 @@
--- `more_bit` meets its contract.
+-- `continuation_bit` meets its contract.
 use native.Mathlib.Omega.{arith}
 use borrow.Author.Needs.{needs}
 use Prim.Native.Nat.{_/_, _^_, _≤_, _<_}
 use native.Mathlib.Nat.{div-eq-of-lt, le-div-iff-mul-le}
 use lib.Pow.{pow-pos}
 use borrow.Author.Tests.{eq-eqb, ne-eqb}
-use Rattle.codes.proofs.layering.more_bit.Statement.{statement}
-use Rattle.codes.proofs.layering.more_bit.Tie as tie
+use Rattle.codes.proofs.layering.continuation_bit.Statement.{statement}
+use Rattle.codes.proofs.layering.continuation_bit.Tie as tie
 
 wide-requires : tie.Need-wide-requires
 wide-requires c κs = search needs
@@ -23,5 +23,5 @@ returns-2 c =
     let n : 1 ≤ a .v / 2 ^ (a .radix .bits) = le-div-iff-mul-le {k = 2 ^ (a .radix .bits)} {x = 1} {y = a .v} (pow-pos (a .radix .bits)) .1 (omega arith) in
     rw (ne-eqb (a .v / 2 ^ (a .radix .bits)) 0 (omega arith)) (omega arith)
 
-pub more-bit-spec : {M : Type 1} → statement M
-more-bit-spec = tie.close (tie.spec wide-requires returns returns-2)
+pub continuation-bit-spec : {M : Type 1} → statement M
+continuation-bit-spec = tie.close (tie.spec wide-requires returns returns-2)

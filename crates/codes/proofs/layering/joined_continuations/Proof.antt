@@ -1,4 +1,4 @@
--- `joined_marks` meets its contract.
+-- `joined_continuations` meets its contract.
 use native.Mathlib.Omega.{arith}
 use mathlib.Core.Path.{_≡_, refl}
 use Prim.Native.Nat.{_+_, _-_, _^_, _≤_, _<_}
@@ -6,12 +6,12 @@ use lib.ListN.{drop, length-drop}
 use lib.Pow.{pow-mono}
 use lib.Seq.{getD-drop}
 use Rattle.codes.specs.Bits.{number}
-use Rattle.codes.proofs.LayersWritten.{marks, number-marks-lt, number-marks-suc}
-use Rattle.codes.proofs.layering.joined_marks.Statement.{statement}
-use Rattle.codes.proofs.layering.joined_marks.Tie as tie
+use Rattle.codes.proofs.LayersWritten.{continuations, number-continuations-lt, number-continuations-suc}
+use Rattle.codes.proofs.layering.joined_continuations.Statement.{statement}
+use Rattle.codes.proofs.layering.joined_continuations.Tie as tie
 
 abbrev Inv-loop : tie.InvT-loop
-Inv-loop values from n radix joined₀ i₀ joined i = (i ≤ n) × (joined ≡ number (marks (radix .bits) (drop from values) i)) × (joined < 2 ^ 32)
+Inv-loop values from n radix joined₀ i₀ joined i = (i ≤ n) × (joined ≡ number (continuations (radix .bits) (drop from values) i)) × (joined < 2 ^ 32)
 
 abbrev μ-loop : tie.MeasureT-loop
 μ-loop values from n radix joined₀ i₀ joined i = n - i
@@ -23,17 +23,17 @@ loop-holds c = (omega arith, refl, omega arith)
 mul-joined : tie.Need-mul-joined Inv-loop μ-loop
 mul-joined c = omega arith
 
-add-more-bit : tie.Need-add-more-bit Inv-loop μ-loop
-add-more-bit c = omega arith
+add-continuation-bit : tie.Need-add-continuation-bit Inv-loop μ-loop
+add-continuation-bit c = omega arith
 
-mul-more-bit : tie.Need-mul-more-bit Inv-loop μ-loop
-mul-more-bit c = omega arith
+mul-continuation-bit : tie.Need-mul-continuation-bit Inv-loop μ-loop
+mul-continuation-bit c = omega arith
 
-shared-slice-read-more-bit : tie.Need-shared-slice-read-more-bit Inv-loop μ-loop
-shared-slice-read-more-bit c = omega arith
+shared-slice-read-continuation-bit : tie.Need-shared-slice-read-continuation-bit Inv-loop μ-loop
+shared-slice-read-continuation-bit c = omega arith
 
-more-bit-requires : tie.Need-more-bit-requires Inv-loop μ-loop
-more-bit-requires c κs = omega arith
+continuation-bit-requires : tie.Need-continuation-bit-requires Inv-loop μ-loop
+continuation-bit-requires c κs = omega arith
 
 add-joined : tie.Need-add-joined Inv-loop μ-loop
 add-joined c = omega arith
@@ -50,8 +50,8 @@ loop-again c =
     let a = c .before .before .before .before .before .args in
     let vs = drop (a .from) (a .values .now) in
     let g = getD-drop (a .from) (a .values .now) (l .i) 0 in
-    let e = rw g at (number-marks-suc (a .radix .bits) vs (l .i) (simp length-drop (omega arith))) in
-    let lt = number-marks-lt (a .radix .bits) vs (l .i + 1) (simp length-drop (omega arith)) in
+    let e = rw g at (number-continuations-suc (a .radix .bits) vs (l .i) (simp length-drop (omega arith))) in
+    let lt = number-continuations-lt (a .radix .bits) vs (l .i + 1) (simp length-drop (omega arith)) in
     (omega arith, omega (arith, e), omega (arith, e, pow-mono {i = l .i + 1} {j = 32} (omega arith)))
 
 returns : tie.Need-returns Inv-loop μ-loop
@@ -59,18 +59,18 @@ returns c =
     let e : c .before .loop .i ≡ c .before .before .before .args .n = omega arith in
     rw e at (c .before .loop .inv .1)
 
-pub joined-marks-spec : {M : Type 1} → statement M
-joined-marks-spec =
+pub joined-continuations-spec : {M : Type 1} → statement M
+joined-continuations-spec =
     tie.close
     (tie.spec
     Inv-loop
     μ-loop
     loop-holds
     mul-joined
-    add-more-bit
-    mul-more-bit
-    shared-slice-read-more-bit
-    more-bit-requires
+    add-continuation-bit
+    mul-continuation-bit
+    shared-slice-read-continuation-bit
+    continuation-bit-requires
     add-joined
     add-i
     loop-less

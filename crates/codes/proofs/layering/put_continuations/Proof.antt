@@ -1,16 +1,16 @@
--- `put_marks` meets its contract.
+-- `put_continuations` meets its contract.
 use native.Mathlib.Omega.{arith}
 use mathlib.Core.Path.{_≡_}
 use Prim.Native.Nat.{_-_, _≤_, _<_}
 use lib.ListN.{drop, length-drop}
-use Rattle.codes.specs.Pen.{Wrote}
+use Rattle.codes.specs.Written.{Wrote}
 use Rattle.codes.proofs.BitsWritten.{wrote-nothing, wrote-both}
-use Rattle.codes.proofs.LayersWritten.{marks, length-marks, number-marks-lt, bits-marks, marks-add}
-use Rattle.codes.proofs.layering.put_marks.Statement.{statement}
-use Rattle.codes.proofs.layering.put_marks.Tie as tie
+use Rattle.codes.proofs.LayersWritten.{continuations, length-continuations, number-continuations-lt, continuations-back, continuations-add}
+use Rattle.codes.proofs.layering.put_continuations.Statement.{statement}
+use Rattle.codes.proofs.layering.put_continuations.Tie as tie
 
 abbrev Inv-loop : tie.InvT-loop
-Inv-loop out₀ radix values n p₀ i₀ out p i = (i ≤ n) × Wrote out₀ p₀ out p (marks (radix .bits) values i) × (p .have < 32)
+Inv-loop out₀ radix values n p₀ i₀ out p i = (i ≤ n) × Wrote out₀ p₀ out p (continuations (radix .bits) values i) × (p .have < 32)
 
 abbrev μ-loop : tie.MeasureT-loop
 μ-loop out₀ radix values n p₀ i₀ out p i = n - i
@@ -18,7 +18,7 @@ abbrev μ-loop : tie.MeasureT-loop
 loop-holds : tie.Need-loop-holds Inv-loop μ-loop
 loop-holds c =
     let a = c .before .before .args in
-    (omega arith, wrote-nothing (a .out .now) (a .pen), omega arith)
+    (omega arith, wrote-nothing (a .out .now) (a .writer), omega arith)
 
 sub-least : tie.Need-sub-least Inv-loop μ-loop
 sub-least c = omega arith
@@ -26,8 +26,8 @@ sub-least c = omega arith
 least-requires : tie.Need-least-requires Inv-loop μ-loop
 least-requires c κs = omega arith
 
-joined-marks-requires : tie.Need-joined-marks-requires Inv-loop μ-loop
-joined-marks-requires c κs = omega arith
+joined-continuations-requires : tie.Need-joined-continuations-requires Inv-loop μ-loop
+joined-continuations-requires c κs = omega arith
 
 put-requires : tie.Need-put-requires Inv-loop μ-loop
 put-requires c κs =
@@ -35,8 +35,8 @@ put-requires c κs =
     let a = c .before .before .before .before .before .before .before .args in
     let k = c .before .before .least .result in
     let w = l .inv .1 in
-    let x = number-marks-lt (a .radix .bits) (drop (l .i) (a .values .now)) k (simp length-drop (omega arith)) in
-    omega (arith, c .joined-marks .ensures, length-marks (a .radix .bits) (a .values .now) (l .i) (omega arith))
+    let x = number-continuations-lt (a .radix .bits) (drop (l .i) (a .values .now)) k (simp length-drop (omega arith)) in
+    omega (arith, c .joined-continuations .ensures, length-continuations (a .radix .bits) (a .values .now) (l .i) (omega arith))
 
 add-i : tie.Need-add-i Inv-loop μ-loop
 add-i c = omega arith
@@ -50,8 +50,8 @@ loop-again c =
     let a = c .before .before .before .before .before .before .before .before .before .before .args in
     let k = c .before .before .before .before .before .least .result in
     let u = c .before .before .put .ensures in
-    let b = bits-marks (a .radix .bits) (drop (l .i) (a .values .now)) k (simp length-drop (omega arith)) in
-    (omega arith, rw (marks-add (a .radix .bits) (a .values .now) (l .i) k) (wrote-both (l .inv .1) (rw (c .before .before .before .joined-marks .ensures, b) at (u .0))), u .1)
+    let b = continuations-back (a .radix .bits) (drop (l .i) (a .values .now)) k (simp length-drop (omega arith)) in
+    (omega arith, rw (continuations-add (a .radix .bits) (a .values .now) (l .i) k) (wrote-both (l .inv .1) (rw (c .before .before .before .joined-continuations .ensures, b) at (u .0))), u .1)
 
 same-length : tie.Need-same-length Inv-loop μ-loop
 same-length c = c .before .loop .inv .1 .kept
@@ -62,8 +62,8 @@ returns c =
     let e : l .i ≡ c .before .before .before .before .args .n = omega arith in
     (rw e at (l .inv .1), l .inv .2)
 
-pub put-marks-spec : {M : Type 1} → statement M
-put-marks-spec =
+pub put-continuations-spec : {M : Type 1} → statement M
+put-continuations-spec =
     tie.close
     (tie.spec
     Inv-loop
@@ -71,7 +71,7 @@ put-marks-spec =
     loop-holds
     sub-least
     least-requires
-    joined-marks-requires
+    joined-continuations-requires
     put-requires
     add-i
     loop-less
