@@ -79,6 +79,7 @@ pub fn encode(out: &mut [u8], work: &mut [u32], values: &[u32], code: u8) -> usi
             clear(work, n);
             finish(out, p)
         }
+        // A refused code holds no values.
         Kind::Refused => 0,
     }
 }

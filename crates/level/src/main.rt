@@ -18,7 +18,7 @@ fn digit(byte: u8) -> u64
     ensures { λ r. ⌜ r ≤ 10 ⌝ }
 {
     match byte {
-        48..=57 => (byte - 48) as u64,
+        b'0'..=b'9' => (byte - b'0') as u64,
         _ => 10,
     }
 }
@@ -137,7 +137,7 @@ fn main() {
         io::write_all(STDOUT_FILENO, b"too long\n");
         return;
     }
-    text[n] = 10;
+    text[n] = b'\n';
     let mut values = [0u32; 2048];
     let parsed = parse(&text[..n + 1], &mut values);
     let count = parsed.count;
