@@ -1,6 +1,9 @@
 //! How long the proved functions take, as a multiple of the straightforward ones: below 1
 //! the proved ones are faster. Each number is the median over rounds that time both, one
 //! right after the other.
+//!
+//! With two words, as `proved encode`, it times nothing and runs that one alone, ten times,
+//! for a tool that counts instructions; `proved none` runs nothing, for what all else takes.
 
 use std::hint::black_box;
 use std::time::Instant;
@@ -10,6 +13,8 @@ use gemcotton_tests::{proved, straightforward};
 
 const COUNT: usize = 32_768;
 const ROUNDS: usize = 1001;
+/// How often one function is run alone.
+const ALONE: usize = 10;
 
 /// splitmix64.
 fn random(state: &mut u64) -> u64 {
@@ -24,6 +29,15 @@ fn random(state: &mut u64) -> u64 {
 enum Which {
     Proved,
     Straightforward,
+}
+
+/// Prints the ratio under its label, or runs one side where that one alone is asked for.
+fn report(alone: &Option<(Which, String)>, name: &str, label: &str, mut work: impl FnMut(Which)) {
+    match alone {
+        None => println!("{label}: {:.2}", ratio(work)),
+        Some((which, asked)) if asked == name => (0..ALONE).for_each(|_| work(*which)),
+        Some(_) => {}
+    }
 }
 
 /// The median of proved / straightforward. Which goes first changes from round to round.
@@ -78,14 +92,14 @@ impl Level {
 }
 
 /// Fetches the values at the indices, the same ones for both.
-fn fetch_ratio(level: &Level, indices: &[usize]) -> f64 {
+fn fetches<'a>(level: &'a Level, indices: &'a [usize]) -> impl FnMut(Which) + 'a {
     for &index in indices {
         let (part, code, value) = (&level.part, level.code, level.values[index]);
         let fetched = straightforward::fetch(part, code, COUNT, index);
         assert_eq!(fetched, Some(value));
         assert_eq!(proved::fetch(part, code, COUNT, index), fetched);
     }
-    ratio(|which| {
+    move |which| {
         let (part, code, count) = black_box((&level.part, level.code, COUNT));
         match which {
             Which::Proved => {
@@ -99,15 +113,15 @@ fn fetch_ratio(level: &Level, indices: &[usize]) -> f64 {
                 }
             }
         }
-    })
+    }
 }
 
 /// Both write the same buffer, which is not cleared between calls. The proved function is
 /// lent a list to work in, which the other one allocates.
-fn encode_ratio(level: &Level) -> f64 {
+fn encodes(level: &Level) -> impl FnMut(Which) + '_ {
     let mut buffer = vec![0; level.part.len()];
     let mut list = vec![0; level.values.len()];
-    ratio(|which| {
+    move |which| {
         let (values, code, size) = black_box((&level.values, level.code, level.size));
         let out = black_box(&mut buffer[..]);
         black_box(match which {
@@ -115,17 +129,17 @@ fn encode_ratio(level: &Level) -> f64 {
             Which::Proved => unsafe { proved::encode_sized(values, code, size, &mut list, out) },
             Which::Straightforward => straightforward::encode(values, code, out),
         });
-    })
+    }
 }
 
-fn choose_ratio(level: &Level) -> f64 {
-    ratio(|which| {
+fn chooses(level: &Level) -> impl FnMut(Which) + '_ {
+    move |which| {
         let values = black_box(&level.values);
         black_box(match which {
             Which::Proved => proved::choose(values),
             Which::Straightforward => straightforward::choose(values),
         });
-    })
+    }
 }
 
 fn main() {
@@ -147,13 +161,22 @@ fn main() {
     };
     let (few, many) = (indices(1000), indices(100_000));
 
-    println!("time of proved / straightforward, median of {ROUNDS} rounds");
-    let ratio = fetch_ratio(&chunked, &few);
-    println!("fetch, chunked level of {COUNT} values: {ratio:.2}");
-    let ratio = encode_ratio(&chunked);
-    println!("encode, chunked level of {COUNT} values (buffers not cleared): {ratio:.2}");
-    let ratio = choose_ratio(&chunked);
-    println!("choose, chunked level of {COUNT} values: {ratio:.2}");
-    let ratio = fetch_ratio(&fixed, &many);
-    println!("fetch, fixed-width level of {COUNT} values: {ratio:.2}");
+    let words: Vec<String> = std::env::args().skip(1).collect();
+    let alone = match &words[..] {
+        [] => None,
+        [side, what] if side == "proved" => Some((Which::Proved, what.clone())),
+        [side, what] if side == "straightforward" => Some((Which::Straightforward, what.clone())),
+        _ => panic!("either nothing, or proved or straightforward and a name"),
+    };
+    if alone.is_none() {
+        println!("time of proved / straightforward, median of {ROUNDS} rounds");
+    }
+    let label = format!("fetch, chunked level of {COUNT} values");
+    report(&alone, "fetch", &label, fetches(&chunked, &few));
+    let label = format!("encode, chunked level of {COUNT} values (buffers not cleared)");
+    report(&alone, "encode", &label, encodes(&chunked));
+    let label = format!("choose, chunked level of {COUNT} values");
+    report(&alone, "choose", &label, chooses(&chunked));
+    let label = format!("fetch, fixed-width level of {COUNT} values");
+    report(&alone, "fixed", &label, fetches(&fixed, &many));
 }
