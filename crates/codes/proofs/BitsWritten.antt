@@ -5,11 +5,12 @@ use Prim.Native.Nat.{ℕ, zero, suc, _+_, _-_, _*_, _/_, _%_, _^_, _≤_, _<_}
 use native.Mathlib.Nat.{suc-add, zero-add, add-zero, div-one, mul-mod-left, mod-eq-of-lt}
 use native.Mathlib.Numerals.{add-one}
 use native.Mathlib.Omega.{arith}
-use lib.ListN.{length, take, drop, set, getD, replicate, length-set, length-append, take-append-drop}
+use lib.ListN.{length, take, drop, set, replicate, length-set, length-append, take-append-drop}
 use lib.Seq.{take-at, drop-at, take-append-add, length-take-le, take-suc-set, drop-set-lt}
 use lib.Pow.{high, mod-pow-add, mod-mod-pow, shl-shr}
 use Rattle.codes.specs.declared.writing.Writer.{Writer}
 use Rattle.codes.specs.Bits.{bits, number, fixed, bytesOf, bitsOf, bytesFor, padded}
+use Rattle.codes.specs.Codes.{Within}
 use Rattle.codes.specs.Written.{written, Wrote}
 use Rattle.codes.proofs.Bits.{bits-low, bits-mod, bits-split, length-bits, length-fixed, length-padded, fixed-append, number-bits, number-append}
 use Rattle.codes.proofs.Lists.{drop-later}
@@ -85,17 +86,7 @@ wrote-byte out at next have h acc v l e k q =
 
 -- ---- the padded bytes
 
--- every number is a byte
-abbrev pub Bytes : List ℕ → Type 0
-Bytes xs = (i : ℕ) → getD xs i 0 < 256
-
-pub bytes-take : (n : ℕ) (l : List ℕ) → Bytes l → Bytes (take n l)
-bytes-take zero l h i = omega arith
-bytes-take (suc n) [] h i = omega arith
-bytes-take (suc n) (x ∷ l) h zero = h 0
-bytes-take (suc n) (x ∷ l) h (suc i) = bytes-take n l (λ k. h (suc k)) i
-
-bytes-append : (xs z : List ℕ) (k : ℕ) → Bytes xs → bytesOf (length xs + k) (bitsOf xs ++ z) ≡ xs ++ bytesOf k z
+bytes-append : (xs z : List ℕ) (k : ℕ) → Within 8 xs → bytesOf (length xs + k) (bitsOf xs ++ z) ≡ xs ++ bytesOf k z
 unfolding fixed bytesOf
 bytes-append [] z k h = ap (λ (n : ℕ). bytesOf n z) (zero-add k)
 bytes-append (x ∷ xs) z k h =
@@ -124,14 +115,14 @@ last-byte n a l k =
     ap (λ (i : ℕ). number (take i (bits n a ++ z))) e
     ∙ rw (take-append-add (bits n a) z (8 - n), number-append (bits n a) (take (8 - n) z), number-bits n a, q, number-zeros (8 - n) 7, add-zero (a % 2 ^ n * 2 ^ (8 - n)))
 
-pub padded-whole : (xs : List ℕ) (a : ℕ) → Bytes xs → padded (bitsOf xs ++ bits 0 a) ≡ xs
+pub padded-whole : (xs : List ℕ) (a : ℕ) → Within 8 xs → padded (bitsOf xs ++ bits 0 a) ≡ xs
 unfolding padded bits bytesOf
 padded-whole xs a h =
     let e : bytesFor (length (bitsOf xs)) ≡ length xs + 0 = rw (length-fixed 8 xs) (omega arith) in
     rw (append-nil (bitsOf xs), e, bytes-append xs (replicate 7 0) 0 h, append-nil xs)
 
 -- the last byte has n bits at its top: a shift in a word of 64 bits puts them there
-pub padded-last : (xs : List ℕ) (n a : ℕ) → Bytes xs → 0 < n → n < 8 → padded (bitsOf xs ++ bits n a) ≡ xs ++ (a * 2 ^ (8 - n) % 2 ^ 64 / 2 ^ 0 % 256 ∷ [])
+pub padded-last : (xs : List ℕ) (n a : ℕ) → Within 8 xs → 0 < n → n < 8 → padded (bitsOf xs ++ bits n a) ≡ xs ++ (a * 2 ^ (8 - n) % 2 ^ 64 / 2 ^ 0 % 256 ∷ [])
 unfolding padded bytesOf
 padded-last xs n a h l k =
     let e : bytesFor (length (bitsOf xs ++ bits n a)) ≡ length xs + 1 = rw (length-append (bitsOf xs) (bits n a), length-fixed 8 xs, length-bits n a) (omega arith) in

@@ -3,9 +3,9 @@ use mathlib.Core.Path.{_≡_, refl, ap, _∙_}
 use mathlib.Core.Bool.{Bool, true, false, cond}
 use mathlib.Core.List.{List, [], _∷_, _++_, map, append-assoc}
 use Prim.Native.Nat.{ℕ, zero, suc, _+_, _*_, _/_, _%_, _^_, _≤_, _<_}
-use native.Mathlib.Nat.{not-suc-le-zero, le-of-suc-le-suc, mod-add-div}
+use native.Mathlib.Nat.{zero-div, not-suc-le-zero, le-of-suc-le-suc, mod-add-div}
 use native.Mathlib.Omega.{arith}
-use lib.ListN.{length, take, drop, getD, length-append, length-map, length-drop, List·getD-append}
+use lib.ListN.{length, take, drop, getD, length-append, length-map, length-drop, List·getD-append, List·getD-map}
 use lib.Seq.{take-at, drop-at, take-append-le, drop-append-add}
 use lib.Dec.{eqb, ltb}
 use borrow.Author.Tests.{le-ltb, lt-ltb, ltb-false, eqb-true, eqb-false}
@@ -79,11 +79,6 @@ fetch-step b n j bs h =
 
 -- ---- a fetch from layers that were written
 
-getD-map : (f : ℕ → ℕ) (vs : List ℕ) (j : ℕ) → j < length vs → getD (map f vs) j 0 ≡ f (getD vs j 0)
-getD-map f [] j h = absurd (not-suc-le-zero h)
-getD-map f (v ∷ vs) zero h = refl
-getD-map f (v ∷ vs) (suc j) h = getD-map f vs j (le-of-suc-le-suc h)
-
 -- bits that begin with continuation bits m and as many chunks c
 one-layer : (g b j : ℕ) (m c z : List ℕ) → length c ≡ length m * b → j < length m
     → let v = number (take b (drop (j * b) (c ++ z))) in
@@ -112,9 +107,10 @@ layer-back f g b vs j after h ih =
     let m = map (continuation b) vs in
     let z = layers f b (rest b vs) ++ after in
     let lm : length m ≡ length vs = length-map vs (continuation b) in
+    let mj : getD m j 0 ≡ continuation b x = rw (zero-div (2 ^ b)) at (List·getD-map (continuation b) vs j 0) in
     let step = one-layer g b j m (fixed b vs) z (rw lm (length-fixed b vs)) (rw lm h) in
     rw (append-assoc m (fixed b vs ++ layers f b (rest b vs)) after, append-assoc (fixed b vs) (layers f b (rest b vs)) after)
-    (rw lm at step ∙ rw (fixed-at b vs j z h, number-bits b x, getD-map (continuation b) vs j h, sum-continuations b vs) (go (eqb (x / 2 ^ b) 0) refl))
+    (rw lm at step ∙ rw (fixed-at b vs j z h, number-bits b x, mj, sum-continuations b vs) (go (eqb (x / 2 ^ b) 0) refl))
   where
     go : (t : Bool) → eqb (getD vs j 0 / 2 ^ b) 0 ≡ t
         → cond (eqb (cond t 0 1) 0) (value (getD vs j 0 % 2 ^ b))

@@ -7,7 +7,7 @@ use native.Mathlib.Nat.{lt-of-lt-of-le, not-suc-le-zero, le-of-suc-le-suc, zero-
 use native.Mathlib.Omega.{arith}
 use lib.ListN.{length, take, getD}
 use lib.Dec.{eqb}
-use lib.Pow.{pow-mono, shr-lt}
+use lib.Pow.{pow-pos, pow-mono, shr-lt}
 use borrow.Author.Tests.{eq-eqb}
 use Rattle.codes.specs.Bits.{sum, fixed}
 use Rattle.codes.specs.Codes.{continuation, rest, layers, chunked, Within}
@@ -55,7 +55,7 @@ div-lt b f x hb hx = shr-lt f b (lt-of-lt-of-le hx (pow-mono (omega arith)))
 
 pub within-rest : (b f : ℕ) (vs : List ℕ) → 1 ≤ b → Within (suc f) vs → Within f (rest b vs)
 unfolding rest
-within-rest b f [] hb h j = pow-mono {i = 0} {j = f} (omega arith)
+within-rest b f [] hb h j = pow-pos f
 within-rest b f (v ∷ vs) hb h j = go (eqb (v / 2 ^ b) 0) j (within-rest b f vs hb (λ i. h (suc i)))
   where
     go : (t : Bool) (i : ℕ) → Within f (rest b vs) → getD (cond t (rest b vs) (v / 2 ^ b ∷ rest b vs)) i 0 < 2 ^ f
@@ -65,6 +65,12 @@ within-rest b f (v ∷ vs) hb h j = go (eqb (v / 2 ^ b) 0) j (within-rest b f vs
 
 pub within-more : (f g : ℕ) (vs : List ℕ) → f ≤ g → Within f vs → Within g vs
 within-more f g vs l h j = lt-of-lt-of-le (h j) (pow-mono l)
+
+pub within-take : (w n : ℕ) (vs : List ℕ) → Within w vs → Within w (take n vs)
+within-take w zero vs h j = pow-pos w
+within-take w (suc n) [] h j = pow-pos w
+within-take w (suc n) (v ∷ vs) h zero = h 0
+within-take w (suc n) (v ∷ vs) h (suc j) = within-take w n vs (λ i. h (suc i)) j
 
 -- of values of at most t bits nothing is left above them
 pub rest-none : (t : ℕ) (vs : List ℕ) → Within t vs → rest t vs ≡ []

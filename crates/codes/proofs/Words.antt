@@ -2,7 +2,8 @@
 use mathlib.Core.Path.{_≡_, refl, _∙_}
 use mathlib.Core.List.{List, [], _∷_, append-nil}
 use Prim.Native.Nat.{ℕ, zero, suc, _+_, _-_, _*_, _/_, _%_, _^_, _≤_, _<_, min}
-use native.Mathlib.Nat.{mod-eq-of-lt, min-eq-left, min-eq-right}
+use native.Mathlib.Nat.{min-eq-left, min-eq-right}
+use native.Mathlib.Numerals.{add-one}
 use native.Mathlib.Decide.{decLe}
 use native.Mathlib.Omega.{arith}
 use lib.ListN.{length, take, drop, getD, length-drop}
@@ -11,7 +12,8 @@ use lib.Arith.{digits-lt}
 use lib.Count.{ones, ones-cat}
 use lib.Pow.{pow-add}
 use Rattle.codes.specs.Bits.{number, sum, bitsOf}
-use Rattle.codes.proofs.Bits.{Bits, bits-take, bits-drop, bits-fixed, length-fixed, fixed-at, number-bits, number-append, number-lt, number-part, number-take-lt, sum-take-add, sum-le}
+use Rattle.codes.specs.Codes.{Within}
+use Rattle.codes.proofs.Bits.{Bits, bits-take, bits-drop, bits-fixed, length-fixed, fixed-fetch, number-append, number-lt, number-part, number-take-lt, sum-take-add, sum-le}
 
 -- ---- numbers in a part
 
@@ -30,29 +32,26 @@ number-more bytes at n m h =
     rw (take-add n m (from bytes at), drop-drop n at (bitsOf bytes), number-append, l)
 
 -- one byte
-pub number-byte : (bytes : List ℕ) (i : ℕ) → i < length bytes → getD bytes i 0 < 256 → number (take 8 (from bytes (i * 8))) ≡ getD bytes i 0
-number-byte bytes i h k = rw (rw append-nil at (fixed-at 8 bytes i [] h), number-bits, mod-eq-of-lt k)
+number-byte : (bytes : List ℕ) (i : ℕ) → i < length bytes → getD bytes i 0 < 256 → number (take 8 (from bytes (i * 8))) ≡ getD bytes i 0
+number-byte bytes i h b = rw append-nil at (fixed-fetch 8 bytes i [] h b)
 
--- four bytes
-pub number-four : (bytes : List ℕ) (i : ℕ) → i + 4 ≤ length bytes → ((j : ℕ) → getD bytes j 0 < 256)
-    → number (take 32 (from bytes (i * 8))) ≡ getD bytes i 0 * 2 ^ 24 + getD bytes (i + 1) 0 * 2 ^ 16 + getD bytes (i + 2) 0 * 2 ^ 8 + getD bytes (i + 3) 0
-number-four bytes i h k =
-    let e1 : i * 8 + 8 ≡ (i + 1) * 8 = omega arith in
-    let e2 : (i + 1) * 8 + 8 ≡ (i + 2) * 8 = omega arith in
-    let e3 : (i + 2) * 8 + 8 ≡ (i + 3) * 8 = omega arith in
-    rw (
-      number-more bytes (i * 8) 8 24 (omega arith),
-      e1,
-      number-more bytes ((i + 1) * 8) 8 16 (omega arith),
-      e2,
-      number-more bytes ((i + 2) * 8) 8 8 (omega arith),
-      e3,
-      number-byte bytes i (omega arith) (k i),
-      number-byte bytes (i + 1) (omega arith) (k (i + 1)),
-      number-byte bytes (i + 2) (omega arith) (k (i + 2)),
-      number-byte bytes (i + 3) (omega arith) (k (i + 3)),
-    )
-    (omega arith)
+-- k bytes from byte i on, and one after them
+pub number-next : (bytes : List ℕ) (i k : ℕ) → i + k < length bytes → getD bytes (i + k) 0 < 256
+    → number (take ((k + 1) * 8) (from bytes (i * 8))) ≡ number (take (k * 8) (from bytes (i * 8))) * 256 + getD bytes (i + k) 0
+number-next bytes i k h b =
+    let e : (k + 1) * 8 ≡ k * 8 + 8 = omega arith in
+    let e' : i * 8 + k * 8 ≡ (i + k) * 8 = omega arith in
+    rw (e, number-more bytes (i * 8) (k * 8) 8 (omega arith), e', number-byte bytes (i + k) h b)
+
+-- the number that k bytes spell
+abbrev pub spelled : ℕ → List ℕ → ℕ → ℕ
+spelled zero bytes i = 0
+spelled (suc k) bytes i = spelled k bytes i * 256 + getD bytes (i + k) 0
+
+pub number-bytes : (k : ℕ) (bytes : List ℕ) (i : ℕ) → i + k ≤ length bytes → Within 8 bytes → number (take (k * 8) (from bytes (i * 8))) ≡ spelled k bytes i
+unfolding number
+number-bytes zero bytes i h b = refl
+number-bytes (suc k) bytes i h b = rw (← (add-one k), number-next bytes i k (omega arith) (b (i + k)), number-bytes k bytes i (omega arith) b)
 
 -- so many bits spell less than a power of two
 pub part-lt : (bytes : List ℕ) (at w : ℕ) → number (take w (from bytes at)) < 2 ^ w
@@ -106,7 +105,7 @@ reversed zero bytes i = 0
 reversed (suc k) bytes i = reversed k bytes i + getD bytes (i + k) 0 * 2 ^ (k * 8)
 
 -- has the ones of their bits
-pub ones-reversed : (k : ℕ) (bytes : List ℕ) (i : ℕ) → i + k ≤ length bytes → ((j : ℕ) → getD bytes j 0 < 256)
+pub ones-reversed : (k : ℕ) (bytes : List ℕ) (i : ℕ) → i + k ≤ length bytes → Within 8 bytes
     → (reversed k bytes i < 2 ^ (k * 8)) × (ones (reversed k bytes i) ≡ sum (take (k * 8) (from bytes (i * 8))))
 unfolding ones sum
 ones-reversed zero bytes i h b = (omega arith, refl)
@@ -123,11 +122,10 @@ ones-reversed (suc k) bytes i h b =
       rw (swap, ones-cat (k * 8) x r (ih .0), here, e, ones-more bytes (i * 8) (k * 8) 8, e'') (omega arith),
     )
 
--- whole words begin at a whole byte
-pub ones-words : (bytes : List ℕ) (start words : ℕ) → (0 < words → start / 8 * 8 ≡ start)
-    → sum (take (words * 64) (from bytes (start / 8 * 8))) ≡ sum (take (words * 64) (from bytes start))
-ones-words bytes start zero h = refl
-ones-words bytes start (suc k) h = rw (h (omega arith))
+-- bits, where there are any, begin at a whole byte
+pub ones-whole : (bytes : List ℕ) (start n : ℕ) → (0 < n → start / 8 * 8 ≡ start) → sum (take n (from bytes (start / 8 * 8))) ≡ sum (take n (from bytes start))
+ones-whole bytes start zero h = refl
+ones-whole bytes start (suc n) h = rw (h (omega arith))
 
 -- bits up to a whole byte, of which there may be fewer, and then a word
 pub whole-byte : (from to : ℕ) → from ≤ to → let start = from + min (to - from) (7 - (from + 7) % 8) in

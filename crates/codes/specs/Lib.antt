@@ -1,5 +1,5 @@
 -- What the level codes mean. A reader of the public contracts needs Bits, Codes, Choice and Fetch; Marked has the marked
--- parts, Promises what is shown besides the contracts. Measure and Written are cited by private functions alone.
+-- parts, Promises what is shown besides the contracts. Measure, Written and Radix are cited by private functions alone.
 pub mod Bits
 pub mod Codes
 pub mod Choice
@@ -8,3 +8,4 @@ pub mod Marked
 pub mod Promises
 pub mod Measure
 pub mod Written
+pub mod Radix

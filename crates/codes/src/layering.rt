@@ -10,6 +10,7 @@ ghost use lib.ListN.{length, take, drop};
 ghost use Rattle.codes.specs.Bits.{number, fixed};
 ghost use Rattle.codes.specs.Codes.{continuation, rest, chunked, Within};
 ghost use Rattle.codes.specs.Written.{Wrote};
+ghost use Rattle.codes.specs.Radix.{IsRadix};
 
 // The width of a chunk, and 2 to its power.
 struct Radix {
@@ -22,7 +23,7 @@ const POWERS: [u64; 9] = [1, 2, 4, 8, 16, 32, 64, 128, 256];
 // The power comes from a table, since the compiler makes slow shifts of products and comparisons with a computed one.
 fn radix_of(b: usize) -> Radix
     requires { ⌜ b ≤ 8 ⌝ }
-    ensures { λ r. ⌜ (r .bits ≡ b) × (r .power ≡ 2 ^ b) ⌝ }
+    ensures { λ r. ⌜ (r .bits ≡ b) × IsRadix r ⌝ }
 {
     Radix {
         bits: b,
@@ -32,7 +33,7 @@ fn radix_of(b: usize) -> Radix
 
 // The lowest chunk of `v`.
 fn chunk_of(v: u32, radix: Radix) -> u64
-    requires { ⌜ radix .power ≡ 2 ^ (radix .bits) ⌝ }
+    requires { ⌜ IsRadix radix ⌝ }
     ensures { λ r. ⌜ r ≡ v % 2 ^ (radix .bits) ⌝ }
 {
     wide(v) & (radix.power - 1)
@@ -40,7 +41,7 @@ fn chunk_of(v: u32, radix: Radix) -> u64
 
 // The continuation bit of `v`: 1 where another chunk follows the lowest.
 fn continuation_bit(v: u32, radix: Radix) -> u64
-    requires { ⌜ radix .power ≡ 2 ^ (radix .bits) ⌝ }
+    requires { ⌜ IsRadix radix ⌝ }
     ensures { λ r. ⌜ (r < 2) × (r ≡ continuation (radix .bits) v) ⌝ }
 {
     if wide(v) < radix.power { 0 } else { 1 }
@@ -48,7 +49,7 @@ fn continuation_bit(v: u32, radix: Radix) -> u64
 
 // The number that the continuation bits of `n` values from value `from` on spell.
 fn joined_continuations(values: &[u32], from: usize, n: usize, radix: Radix) -> u64
-    requires { ⌜ (from + n ≤ length (now values)) × (n ≤ 32) × (radix .power ≡ 2 ^ (radix .bits)) ⌝ }
+    requires { ⌜ (from + n ≤ length (now values)) × (n ≤ 32) × IsRadix radix ⌝ }
     ensures { λ r. ⌜ r ≡ number (map (continuation (radix .bits)) (take n (drop from (now (values .entry))))) ⌝ }
 {
     let mut joined: u64 = 0;
@@ -68,7 +69,7 @@ fn put_continuations(
     values: &[u32],
     n: usize,
 ) -> Writer
-    requires { ⌜ (radix .power ≡ 2 ^ (radix .bits)) × (writer .have < 32) × (n ≤ length (now values)) ⌝ }
+    requires { ⌜ IsRadix radix × (writer .have < 32) × (n ≤ length (now values)) ⌝ }
     requires { ⌜ writer .at * 8 + writer .have + n ≤ length (now out) * 8 ⌝ }
     ensures { λ r. ⌜ Wrote (now (out .entry)) writer (now (out .exit)) r (map (continuation (radix .bits)) (take n (now (values .entry)))) × (r .have < 32) ⌝ }
 {
@@ -90,7 +91,7 @@ struct Group {
 
 // Joins the lowest chunks of `n` values from value `from` on, and adds what these values have above to the `left` in front.
 fn joined_chunks(values: &mut [u32], from: usize, n: usize, radix: Radix, left: usize) -> Group
-    requires { ⌜ (radix .bits ≤ 8) × (radix .power ≡ 2 ^ (radix .bits)) × (left ≤ from) ⌝ }
+    requires { ⌜ (radix .bits ≤ 8) × IsRadix radix × (left ≤ from) ⌝ }
     requires { ⌜ (from + n ≤ length (now values)) × (n * radix .bits ≤ 32) ⌝ }
     ensures { λ r. ⌜ (r .joined ≡ number (fixed (radix .bits) (take n (drop from (now (values .entry)))))) × (r .left ≤ left + n)
         × (take (r .left) (now (values .exit)) ≡ take left (now (values .entry)) ++ rest (radix .bits) (take n (drop from (now (values .entry)))))
@@ -123,7 +124,7 @@ struct Chunks {
 // Writes the lowest chunks of the first `n` values, as many at a time as go into 32 bits, and leaves what these values have
 // above at the front.
 fn put_chunks(out: &mut [u8], writer: Writer, radix: Radix, values: &mut [u32], n: usize) -> Chunks
-    requires { ⌜ (1 ≤ radix .bits) × (radix .bits ≤ 8) × (radix .power ≡ 2 ^ (radix .bits)) × (writer .have < 32) × (n ≤ length (now values)) ⌝ }
+    requires { ⌜ (1 ≤ radix .bits) × (radix .bits ≤ 8) × IsRadix radix × (writer .have < 32) × (n ≤ length (now values)) ⌝ }
     requires { ⌜ writer .at * 8 + writer .have + n * radix .bits ≤ length (now out) * 8 ⌝ }
     ensures { λ r. ⌜ Wrote (now (out .entry)) writer (now (out .exit)) (r .writer) (fixed (radix .bits) (take n (now (values .entry)))) × (r .writer .have < 32)
         × (r .left ≤ n) × (take (r .left) (now (values .exit)) ≡ rest (radix .bits) (take n (now (values .entry))))

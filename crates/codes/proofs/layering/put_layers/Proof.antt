@@ -37,7 +37,7 @@ put-continuations-requires c κs =
     let r = c .before .before .before .before .radix-of .ensures in
     let b = c .before .before .before .before .before .before .before .args .b in
     let w = l .inv .5 .1 in
-    rw (r .0, r .1) (omega (arith, layer-room b (l .left) (l .values) (l .inv .5 .0) _ (omega arith) (omega arith) (l .inv .3) (l .inv .5 .2)))
+    rw (r .1, r .0) (omega (arith, layer-room b (l .left) (l .values) (l .inv .5 .0) _ (omega arith) (omega arith) (l .inv .3) (l .inv .5 .2)))
 
 put-chunks-requires : tie.Need-put-chunks-requires Inv-loop μ-loop
 put-chunks-requires c κs =
@@ -47,7 +47,7 @@ put-chunks-requires c κs =
     let b = m .before .before .before .before .before .before .before .before .args .b in
     let w = l .inv .5 .1 in
     let u = rw (r .0) at (m .put-continuations .ensures .0) in
-    rw (r .0, r .1)
+    rw (r .1, r .0)
     (omega (arith, layer-room b (l .left) (l .values) (l .inv .5 .0) _ (omega arith) (omega arith) (l .inv .3) (l .inv .5 .2), length-continuations b (l .values) (l .left) (omega arith)))
 
 loop-less : tie.Need-loop-less Inv-loop μ-loop

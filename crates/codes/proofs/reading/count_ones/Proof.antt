@@ -2,7 +2,7 @@
 use native.Mathlib.Omega.{arith}
 use mathlib.Core.Path.{_≡_}
 use Prim.Native.Nat.{ℕ, _+_, _-_, _*_, _/_, _≤_}
-use Rattle.codes.proofs.Words.{ones-more, ones-words, whole-byte}
+use Rattle.codes.proofs.Words.{ones-more, ones-whole, whole-byte}
 use borrow.Author.Needs.{needs}
 use Rattle.codes.proofs.reading.count_ones.Statement.{statement}
 use Rattle.codes.proofs.reading.count_ones.Tie as tie
@@ -66,7 +66,7 @@ returns c =
         e,
         ones-more (a .part .now) (a .from) head (words * 64 + rest),
         ones-more (a .part .now) start (words * 64) rest,
-        ← (ones-words (a .part .now) start words whole),
+        ← (ones-whole (a .part .now) start (words * 64) (λ l. whole (omega arith))),
       ) (omega arith),
     )
 

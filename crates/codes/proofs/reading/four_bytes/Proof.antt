@@ -1,6 +1,10 @@
 -- `four_bytes` meets its contract.
+use mathlib.Core.Path.{_≡_, sym, _∙_}
+use Prim.Native.Nat.{_+_}
+use native.Mathlib.Nat.{add-zero}
 use native.Mathlib.Omega.{arith}
-use Rattle.codes.proofs.Words.{number-four}
+use lib.ListN.{getD}
+use Rattle.codes.proofs.Words.{number-bytes}
 use borrow.Author.Needs.{needs}
 use Rattle.codes.proofs.reading.four_bytes.Statement.{statement}
 use Rattle.codes.proofs.reading.four_bytes.Tie as tie
@@ -60,7 +64,8 @@ returns : tie.Need-returns
 returns c =
     let a = c .before .before .before .before .before .before .before .before .before .args in
     let known = c .before .before .before .before .before .before .before .before .shared-slice-known in
-    rw (number-four (a .part .now) (a .first) (omega arith) (λ i. known .given i .fits)) (omega arith)
+    let first : getD (a .part .now) (a .first + 0) 0 ≡ getD (a .part .now) (a .first) 0 = rw (add-zero (a .first)) in
+    omega arith ∙ sym (number-bytes 4 (a .part .now) (a .first) (omega arith) (λ i. known .given i .fits))
 
 pub four-bytes-spec : {M : Type 1} → statement M
 four-bytes-spec =

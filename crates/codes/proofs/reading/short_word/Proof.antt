@@ -1,6 +1,6 @@
 -- `short_word` meets its contract.
 use mathlib.Core.Path.{_≡_, refl, ap, _∙_}
-use Prim.Native.Nat.{_≤_, _<_, _*_, _-_, _+_, _^_}
+use Prim.Native.Nat.{_≤_, _<_, _*_, _-_, _^_}
 use native.Mathlib.Nat.{zero-add}
 use native.Mathlib.Omega.{arith}
 use lib.ListN.{length, take}
@@ -8,7 +8,7 @@ use lib.Seq.{take-all}
 use lib.Pow.{pow-mono}
 use Rattle.codes.specs.Bits.{number, bitsOf}
 use Rattle.codes.proofs.Bits.{length-fixed}
-use Rattle.codes.proofs.Words.{number-more, number-byte, part-lt}
+use Rattle.codes.proofs.Words.{number-next, part-lt}
 use Rattle.codes.proofs.reading.short_word.Statement.{statement}
 use Rattle.codes.proofs.reading.short_word.Tie as tie
 
@@ -47,12 +47,10 @@ loop-again : tie.Need-loop-again Inv-loop μ-loop
 loop-again c =
     let bytes = c .before .before .before .before .before .args .part .now in
     let i = c .before .before .before .loop .i in
-    let e : (i + 1) * 8 ≡ i * 8 + 8 = omega arith in
-    let more = number-more bytes 0 (i * 8) 8 (omega arith) in
-    let byte = number-byte bytes i (omega arith) (omega arith) in
+    let next = rw zero-add at (number-next bytes 0 i) in
     let lt : number (take (i * 8) (bitsOf bytes)) < 2 ^ (i * 8) = part-lt bytes 0 (i * 8) in
     let small : number (take (i * 8) (bitsOf bytes)) < 2 ^ 48 = omega (arith, pow-mono {i = i * 8} {j = 48} (omega arith)) in
-    (omega arith, omega arith, rw (e, more, zero-add (i * 8), byte) (omega arith))
+    (omega arith, omega arith, rw (next (omega arith) (omega arith)) (omega arith))
 
 returns : tie.Need-returns Inv-loop μ-loop
 returns c =

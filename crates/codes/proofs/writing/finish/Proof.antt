@@ -8,7 +8,8 @@ use lib.ListN.{length, take, set}
 use lib.Seq.{drop-set-lt, take-suc-set}
 use Rattle.codes.specs.Bits.{padded}
 use Rattle.codes.specs.Written.{written}
-use Rattle.codes.proofs.BitsWritten.{bytes-take, padded-whole, padded-last}
+use Rattle.codes.proofs.BitsWritten.{padded-whole, padded-last}
+use Rattle.codes.proofs.Layers.{within-take}
 use Rattle.codes.proofs.Lists.{drop-later}
 use borrow.Author.Needs.{needs}
 use Rattle.codes.proofs.writing.finish.Statement.{statement}
@@ -28,7 +29,7 @@ returns c =
     let o = d .last .0 in
     let w = d .ensures .0 in
     let z : q .have ≡ 0 = omega arith in
-    let f = bytes-take (q .at) o (λ i. c .before .slice-known2 .given i .fits) in
+    let f = within-take 8 (q .at) o (λ i. c .before .slice-known2 .given i .fits) in
     let s : padded (written o q) ≡ take (q .at) o = rw z (padded-whole (take (q .at) o) (q .acc) f) in
     (omega arith, sym s ∙ ap padded (w .spelled ∙ append-nil (written (a .out .now) (a .writer))), w .later)
 
@@ -58,7 +59,7 @@ returns-2 c =
     let o = d .last .0 in
     let w = d .ensures .0 in
     let b = c .byte-above in
-    let f = bytes-take (q .at) o (λ i. c .before .before .before .slice-known2 .given i .fits) in
+    let f = within-take 8 (q .at) o (λ i. c .before .before .before .slice-known2 .given i .fits) in
     let l : q .at < length o = omega arith in
     let s : take (q .at + 1) (set o (q .at) (b .result)) ≡ padded (written o q) =
     rw (add-one (q .at), take-suc-set o (q .at) (b .result) l, b .ensures) (sym (padded-last (take (q .at) o) (q .have) (q .acc) f (omega arith) (omega arith))) in (
