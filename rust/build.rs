@@ -1,10 +1,15 @@
 use std::env;
 
+/// The proved library's archives.
+const LIBRARIES: [&str; 2] = ["codes_c", "tree_c"];
+
 fn main() {
     let package = env::var("CARGO_MANIFEST_DIR").expect("cargo sets CARGO_MANIFEST_DIR");
     let folder = format!("{package}/../target/staticlib");
     println!("cargo:rustc-link-search=native={folder}");
-    println!("cargo:rustc-link-lib=static=codes_c");
-    println!("cargo:rerun-if-changed={folder}/libcodes_c.a");
+    for library in LIBRARIES {
+        println!("cargo:rustc-link-lib=static={library}");
+        println!("cargo:rerun-if-changed={folder}/lib{library}.a");
+    }
     println!("cargo:rerun-if-changed=build.rs");
 }

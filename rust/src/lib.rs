@@ -1,6 +1,7 @@
-//! Level codes three times over: a slow reference, a plain baseline for speed, and the
-//! proved library behind its C functions.
+//! Level codes and tree three times over: a slow reference, a plain baseline for speed, and
+//! the proved library behind its C functions.
 
 pub mod proved;
+pub mod random;
 pub mod reference;
 pub mod straightforward;

@@ -1,5 +1,7 @@
 //! Safe wrappers over the proved library's C functions.
 
+pub mod tree;
+
 use crate::reference::{self, Kind};
 
 extern "C" {

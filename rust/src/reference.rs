@@ -1,6 +1,8 @@
 //! The scope's level codes, bit by bit. Slow on purpose: each function follows the
 //! scope's sentences and nothing else.
 
+pub mod tree;
+
 #[derive(Debug, PartialEq, Clone, Copy)]
 pub enum Kind {
     Fixed(u32),

@@ -3,6 +3,8 @@
 //!
 //! The public functions are never inlined, since calls into the proved library are not.
 
+pub mod tree;
+
 /// A chunked code's b, or none for a fixed width.
 fn chunk_bits(code: u8) -> Option<u32> {
     (65..=72).contains(&code).then(|| u32::from(code) - 64)

@@ -1,6 +1,7 @@
 //! The proved level codes against the slow reference, result by result and byte by byte.
 //! The baseline of the speed comparison goes through the same tests.
 
+use gemcotton_tests::random::Random;
 use gemcotton_tests::reference::Kind;
 use gemcotton_tests::{proved, reference, straightforward};
 
@@ -8,44 +9,6 @@ use gemcotton_tests::{proved, reference, straightforward};
 const COUNTS: [usize; 10] = [1, 2, 7, 8, 9, 63, 64, 65, 1000, 32_768];
 
 const LONG: [usize; 9] = [255, 256, 257, 4095, 4096, 4097, 32_768, 65_535, 70_000];
-
-/// splitmix64.
-struct Random(u64);
-
-impl Random {
-    fn next(&mut self) -> u64 {
-        self.0 = self.0.wrapping_add(0x9E37_79B9_7F4A_7C15);
-        let mut z = self.0;
-        z = (z ^ (z >> 30)).wrapping_mul(0xBF58_476D_1CE4_E5B9);
-        z = (z ^ (z >> 27)).wrapping_mul(0x94D0_49BB_1331_11EB);
-        z ^ (z >> 31)
-    }
-
-    fn below(&mut self, limit: usize) -> usize {
-        (self.next() % limit as u64) as usize
-    }
-
-    /// A number below 2^width.
-    fn of_width(&mut self, width: u32) -> u32 {
-        (self.next() % (1 << width)) as u32
-    }
-
-    /// A random width, then a random number below 2^width.
-    fn skewed(&mut self) -> u32 {
-        let width = self.below(33) as u32;
-        self.of_width(width)
-    }
-
-    fn bytes(&mut self, length: usize) -> Vec<u8> {
-        (0..length).map(|_| self.next() as u8).collect()
-    }
-
-    /// Bytes where a bit is 1 in `ones` of 16 draws, so that chains get long or stay short.
-    fn dense_bytes(&mut self, length: usize, ones: usize) -> Vec<u8> {
-        let mut byte = || (0..8).fold(0, |byte, _| byte << 1 | u8::from(self.below(16) < ones));
-        (0..length).map(|_| byte()).collect()
-    }
-}
 
 // ---- Levels ----
 
@@ -347,7 +310,7 @@ fn fetch_from_changed_parts() {
                     let mut changed = with_more(&part, more);
                     for _ in 0..=random.below(3) {
                         let place = random.below(part.len());
-                        changed[place] = random.next() as u8;
+                        changed[place] = random.draw() as u8;
                     }
                     for index in some_indices(n, &mut random) {
                         check_fetch(&changed, code, n, index);

@@ -5,25 +5,20 @@
 //! With two words, as `proved encode`, it times nothing and runs that one alone, ten times,
 //! for a tool that counts instructions; `proved none` runs nothing, for what all else takes.
 
+use std::fmt::Debug;
 use std::hint::black_box;
 use std::time::Instant;
 
+use gemcotton_tests::random::Random;
+use gemcotton_tests::reference::tree::levels_of;
 use gemcotton_tests::reference::{kind, Kind};
 use gemcotton_tests::{proved, straightforward};
 
 const COUNT: usize = 32_768;
+const PINS: usize = 65_535;
 const ROUNDS: usize = 1001;
 /// How often one function is run alone.
 const ALONE: usize = 10;
-
-/// splitmix64.
-fn random(state: &mut u64) -> u64 {
-    *state = state.wrapping_add(0x9E37_79B9_7F4A_7C15);
-    let mut z = *state;
-    z = (z ^ (z >> 30)).wrapping_mul(0xBF58_476D_1CE4_E5B9);
-    z = (z ^ (z >> 27)).wrapping_mul(0x94D0_49BB_1331_11EB);
-    z ^ (z >> 31)
-}
 
 #[derive(Clone, Copy)]
 enum Which {
@@ -142,25 +137,119 @@ fn chooses(level: &Level) -> impl FnMut(Which) + '_ {
     }
 }
 
-fn main() {
-    let mut state = 1;
+/// Lines for the level codes.
+fn report_levels(alone: &Option<(Which, String)>, random: &mut Random) {
     // Small values are the most usual, as among differences.
     let skewed = (0..COUNT).map(|_| {
-        let width = random(&mut state) % (1 + random(&mut state) % 24);
-        (random(&mut state) % (1 << width)) as u32
+        let width = random.draw() % (1 + random.draw() % 24);
+        (random.draw() % (1 << width)) as u32
     });
     let chunked = Level::new(skewed.collect());
     assert!(matches!(kind(chunked.code), Kind::Chunked(_)));
-    let even = (0..COUNT).map(|_| (random(&mut state) % (1 << 21)) as u32);
-    let fixed = Level::new(even.collect());
+    let fixed = Level::new((0..COUNT).map(|_| random.of_width(21)).collect());
     assert!(matches!(kind(fixed.code), Kind::Fixed(_)));
-    let mut indices = |n| -> Vec<usize> {
-        (0..n)
-            .map(|_| random(&mut state) as usize % COUNT)
-            .collect()
-    };
+    let mut indices = |n| -> Vec<usize> { (0..n).map(|_| random.below(COUNT)).collect() };
     let (few, many) = (indices(1000), indices(100_000));
 
+    let label = format!("fetch, chunked level of {COUNT} values");
+    report(alone, "fetch", &label, fetches(&chunked, &few));
+    let label = format!("encode, chunked level of {COUNT} values (buffers not cleared)");
+    report(alone, "encode", &label, encodes(&chunked));
+    let label = format!("choose, chunked level of {COUNT} values");
+    report(alone, "choose", &label, chooses(&chunked));
+    let label = format!("fetch, fixed-width level of {COUNT} values");
+    report(alone, "fixed", &label, fetches(&fixed, &many));
+}
+
+/// Both write the same buffer, which is not cleared between calls.
+fn constructs(times: &[u32]) -> impl FnMut(Which) + '_ {
+    let mut values = vec![0; times.len()];
+    straightforward::tree::store(&mut values, times);
+    let mut same = vec![0; times.len()];
+    proved::tree::construct(&mut same, times);
+    assert!(values == same);
+    move |which| {
+        let times = black_box(times);
+        let values = black_box(&mut values[..]);
+        match which {
+            // SAFETY: the times are those of a list, as asserted above.
+            Which::Proved => unsafe { proved::tree::construct_sorted(values, times) },
+            Which::Straightforward => straightforward::tree::store(values, times),
+        }
+    }
+}
+
+/// Runs over the inputs, on which both must agree.
+fn each<'a, Input: Copy, Output: PartialEq + Debug>(
+    inputs: &'a [Input],
+    proved: impl Fn(Input) -> Output + 'a,
+    straightforward: impl Fn(Input) -> Output + 'a,
+) -> impl FnMut(Which) + 'a {
+    for &input in inputs {
+        assert_eq!(proved(input), straightforward(input));
+    }
+    move |which| {
+        let inputs = black_box(inputs);
+        match which {
+            Which::Proved => {
+                for &input in inputs {
+                    black_box(proved(input));
+                }
+            }
+            Which::Straightforward => {
+                for &input in inputs {
+                    black_box(straightforward(input));
+                }
+            }
+        }
+    }
+}
+
+/// Lines for the tree.
+fn report_trees(alone: &Option<(Which, String)>, random: &mut Random) {
+    // Gaps of 8 on average, small ones the most usual.
+    let mut time = 0;
+    let mut next = |_| {
+        let part = (1 + random.below(1 << 30)) as f64 / f64::from(1 << 30);
+        time += (-8.0 * part.ln()).round() as u32;
+        time
+    };
+    let times: Vec<u32> = (0..PINS).map(&mut next).collect();
+    let (s, levels) = levels_of(&times, |_, values| straightforward::choose(values).0);
+    let last = times[PINS - 1] as usize;
+    let mut below = |limit, n| -> Vec<usize> { (0..n).map(|_| random.below(limit)).collect() };
+    let positions = below(PINS, 300);
+    let targets: Vec<u32> = below(last + 2, 300).into_iter().map(|t| t as u32).collect();
+    let counts = below(PINS + 1, 10_000);
+    let nodes: Vec<usize> = below(PINS, 10_000).into_iter().map(|v| v + 1).collect();
+
+    let label = format!("construct, {PINS} times (buffer not cleared)");
+    report(alone, "construct", &label, constructs(&times));
+    // What the proved functions require of the levels is asserted here, not at each call.
+    let tree = proved::tree::Tree::new(&s, &levels);
+    let label = format!("access, {PINS} pins");
+    let baseline = |i| straightforward::tree::access(&s, &levels, i);
+    let work = each(&positions, |i| tree.access(i), baseline);
+    report(alone, "access", &label, work);
+    let label = format!("search, {PINS} pins");
+    let baseline = |t| straightforward::tree::search(&s, &levels, t);
+    let work = each(&targets, |t| tree.search(t), baseline);
+    report(alone, "search", &label, work);
+
+    let label = format!("height and root place, up to {PINS} pins");
+    let proved = |n| (proved::tree::height(n), proved::tree::root_place(n));
+    let baseline = |n| {
+        let height = straightforward::tree::height(n);
+        (height, straightforward::tree::root_place(n))
+    };
+    report(alone, "shape", &label, each(&counts, proved, baseline));
+    let label = format!("rank, {PINS} pins");
+    let proved = |v| proved::tree::rank(black_box(PINS), v);
+    let baseline = |v| straightforward::tree::rank(black_box(PINS), v);
+    report(alone, "rank", &label, each(&nodes, proved, baseline));
+}
+
+fn main() {
     let words: Vec<String> = std::env::args().skip(1).collect();
     let alone = match &words[..] {
         [] => None,
@@ -171,12 +260,7 @@ fn main() {
     if alone.is_none() {
         println!("time of proved / straightforward, median of {ROUNDS} rounds");
     }
-    let label = format!("fetch, chunked level of {COUNT} values");
-    report(&alone, "fetch", &label, fetches(&chunked, &few));
-    let label = format!("encode, chunked level of {COUNT} values (buffers not cleared)");
-    report(&alone, "encode", &label, encodes(&chunked));
-    let label = format!("choose, chunked level of {COUNT} values");
-    report(&alone, "choose", &label, chooses(&chunked));
-    let label = format!("fetch, fixed-width level of {COUNT} values");
-    report(&alone, "fixed", &label, fetches(&fixed, &many));
+    let mut random = Random(1);
+    report_levels(&alone, &mut random);
+    report_trees(&alone, &mut random);
 }

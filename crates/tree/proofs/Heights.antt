@@ -1,0 +1,143 @@
+-- The height of a tree, and the root's place by the pins of its last level.
+use mathlib.Core.Path.{_≡_, refl, sym, ap, _∙_}
+use mathlib.Core.Bool.{cond}
+use Prim.Native.Nat.{ℕ, zero, suc, _+_, _-_, _*_, _/_, _^_, _≤_, _<_, min}
+use native.Mathlib.Nat.{le-refl, pow-succ'}
+use native.Mathlib.Decide.{le-ind, decLt}
+use native.Mathlib.Omega.{arith}
+use lib.Dec.{eqb, ltb, eqb·suc-zero}
+use lib.Arith.{half-le}
+use lib.Pow.{pow-pos, pow-mono}
+use borrow.Author.Tests.{lt-ltb, le-ltb}
+use Rattle.tree.specs.Shape.{heightIn, height, rootPlace}
+
+-- ---- the height
+
+heightIn-more : (f n : ℕ) → n ≤ f → heightIn (suc f) n ≡ heightIn f n
+unfolding heightIn
+heightIn-more zero zero h = refl
+heightIn-more zero (suc n) h = absurd (omega arith)
+heightIn-more (suc f) n h = ap (λ (x : ℕ). cond (eqb n 0) 0 (suc x)) (heightIn-more f (n / 2) (half-le h))
+
+heightIn-enough : (f n : ℕ) → n ≤ f → heightIn f n ≡ height n
+unfolding height
+heightIn-enough f n h = le-ind (λ (m : ℕ). heightIn m n ≡ heightIn n n) refl (λ m k e. heightIn-more m n k ∙ e) f h
+
+pub height-step : (n : ℕ) → 1 ≤ n → height n ≡ suc (height (n / 2))
+unfolding height heightIn
+height-step zero h = absurd (omega arith)
+height-step (suc n) h = rw (heightIn-enough n (suc n / 2) (half-le (le-refl (suc n))), eqb·suc-zero n)
+
+-- a height of k + 1 is that of the numbers with k + 1 binary digits
+pub record Digits (n : ℕ) : Type 0 where
+  pub top : ℕ
+  pub is : height n ≡ suc top
+  pub least : 2 ^ top ≤ n
+  pub below : n < 2 ^ suc top
+
+digitsIn : (f n : ℕ) → 1 ≤ n → n ≤ f → Digits n
+unfolding height heightIn
+digitsIn zero n lo hi = absurd (omega arith)
+digitsIn (suc f) n lo hi = go (decLt n 2) (λ h. digitsIn f (n / 2) (omega arith) (half-le hi))
+  where
+    go : Dec (n < 2) → (2 ≤ n → Digits (n / 2)) → Digits n
+    go (yes h) r = let e : n ≡ 1 = omega arith in record { top = 0; is = ap height e; least = omega arith; below = omega arith }
+    go (no h) r =
+        let d = r (omega arith) in
+        record { top = suc (d .top); is = height-step n lo ∙ ap suc (d .is); least = omega (arith, d .least); below = omega (arith, d .below) }
+
+pub digits : (n : ℕ) → 1 ≤ n → Digits n
+digits n h = digitsIn n n h (le-refl n)
+
+pub height-zero : height 0 ≡ 0
+unfolding height heightIn
+height-zero = refl
+
+pub height-bound : (n : ℕ) → n < 2 ^ height n
+height-bound zero = rw height-zero (omega arith)
+height-bound (suc n) = let d = digits (suc n) (omega arith) in rw (d .is) (d .below)
+
+-- and no less would do
+pub height-le : (n k : ℕ) → n < 2 ^ k → height n ≤ k
+height-le zero k h = rw height-zero (omega arith)
+height-le (suc n) k h = let d = digits (suc n) (omega arith) in rw (d .is) (elim (decLt (d .top) k) [
+  | yes l ↦ l
+  | no l ↦ absurd (more d (omega arith))
+])
+  where
+    more : (d : Digits (suc n)) → k ≤ d .top → ⊥
+    more d l = omega (arith, pow-mono l, d .least)
+
+pub height-mono : (m n : ℕ) → m ≤ n → height m ≤ height n
+height-mono m n h = height-le m (height n) (omega (arith, height-bound n))
+
+pub height-above : (n k : ℕ) → 2 ^ k ≤ n → k < height n
+height-above n k h = elim (decLt k (height n)) [ yes l ↦ l | no l ↦ absurd (fewer (omega arith)) ]
+  where
+    fewer : height n ≤ k → ⊥
+    fewer l = omega (arith, pow-mono l, height-bound n)
+
+-- no other number is such a least one
+pub height-unique : (n m : ℕ) → n < 2 ^ m → 2 ^ m ≤ 2 * n + 1 → height n ≡ m
+height-unique n m lt le =
+    let a = height-le n m lt in
+    elim (decLt (height n) m) [ yes l ↦ absurd (fewer l) | no l ↦ omega arith ]
+  where
+    fewer : height n < m → ⊥
+    fewer l = omega (arith, pow-mono l, height-bound n)
+
+pub height-is : (k n : ℕ) → 2 ^ k ≤ n → n < 2 ^ suc k → height n ≡ suc k
+height-is k n lo hi = height-unique n (suc k) hi (omega arith)
+
+-- ---- the root's place
+
+-- of a number with k + 2 binary digits
+place-of : (k m : ℕ) → 2 ^ suc k ≤ m → m < 2 ^ suc (suc k) → rootPlace m ≡ cond (ltb m (3 * 2 ^ k)) (m - 2 ^ k + 1) (2 * 2 ^ k)
+unfolding rootPlace
+place-of k m lo hi =
+    let e₁ : suc (suc k) - 1 ≡ suc k = omega arith in
+    let e₂ : suc (suc k) - 2 ≡ k = omega arith in
+    rw (height-is (suc k) m lo hi, le-ltb m 2 (omega (arith, pow-pos k)), e₁, e₂, pow-succ' 2 k)
+
+-- 2 ^ (h - 2), by which 01 has its two cases
+pub record Half (m half : ℕ) : Type 0 where
+  pub tall : 2 ≤ height m
+  pub least : 2 * half ≤ m
+  pub below : m < 4 * half
+  pub place : rootPlace m ≡ cond (ltb m (3 * half)) (m - half + 1) (2 * half)
+
+pub half-of : (m : ℕ) → 2 ≤ m → Half m (2 ^ (height m - 2))
+half-of m h = let d = digits m (omega arith) in go (d .top) (d .is) (d .least) (d .below)
+  where
+    go : (k : ℕ) → height m ≡ suc k → 2 ^ k ≤ m → m < 2 ^ suc k → Half m (2 ^ (height m - 2))
+    go zero e a b = absurd (omega arith)
+    go (suc k) e a b =
+        let e₂ : height m - 2 ≡ k = omega arith in
+        rw e₂ record { tall = omega arith; least = omega arith; below = omega arith; place = place-of k m a b }
+
+pub place-small : (m : ℕ) → m < 2 → rootPlace m ≡ m
+unfolding rootPlace
+place-small m h = rw (lt-ltb m 2 h)
+
+-- a tree of 2 ^ (k + 1) - 1 pins and e more on its last level, of 2 ^ (k + 1) at most
+pub place-law : (k m e : ℕ) → suc m ≡ 2 ^ suc k + e → e ≤ 2 ^ suc k → rootPlace m ≡ 2 ^ k + min e (2 ^ k)
+place-law zero m zero em he = place-small m (omega arith) ∙ (omega arith)
+place-law (suc k) m zero em he =
+    rw (place-of k m (omega (arith, pow-pos (suc k))) (omega (arith, pow-pos (suc k))), le-ltb m (3 * 2 ^ k) (omega (arith, pow-pos k)))
+    (omega arith)
+place-law k m (suc e) em he = go (decLt m (3 * 2 ^ k))
+  where
+    place : rootPlace m ≡ cond (ltb m (3 * 2 ^ k)) (m - 2 ^ k + 1) (2 * 2 ^ k)
+    place = place-of k m (omega arith) (omega arith)
+
+    go : Dec (m < 3 * 2 ^ k) → rootPlace m ≡ 2 ^ k + min (suc e) (2 ^ k)
+    go (yes h) = rw (place, lt-ltb m (3 * 2 ^ k) h) (omega arith)
+    go (no h) = rw (place, le-ltb m (3 * 2 ^ k) (omega arith)) (omega arith)
+
+-- the root is in its list
+pub place-in : (m : ℕ) → 1 ≤ m → (1 ≤ rootPlace m) × (rootPlace m ≤ m)
+place-in m h = let d = digits m h in go (d .top) (d .least) (d .below)
+  where
+    go : (k : ℕ) → 2 ^ k ≤ m → m < 2 ^ suc k → (1 ≤ rootPlace m) × (rootPlace m ≤ m)
+    go zero a b = rw (place-small m (omega arith)) (omega arith)
+    go (suc k) a b = rw (place-law k m (suc m - 2 ^ suc k) (omega arith) (omega arith)) (omega (arith, pow-pos k))

@@ -1,0 +1,5 @@
+-- Laws that belong to no one function, each file about what its name says.
+pub mod Heights
+pub mod NodeTimes
+pub mod Stretches
+pub mod NodeFetches

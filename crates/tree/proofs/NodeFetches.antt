@@ -1,0 +1,46 @@
+-- What is fetched for a node, by the number of levels above it.
+use mathlib.Core.Path.{_≡_}
+use mathlib.Core.List.{List}
+use Prim.Native.Nat.{ℕ, suc, _+_, _-_, _*_, _^_, _≤_, _<_, min}
+use native.Mathlib.Nat.{pow-succ'}
+use native.Mathlib.Numerals.{add-one}
+use native.Mathlib.Omega.{arith}
+use lib.ListN.{length, take, drop, getD}
+use lib.Pow.{pow-pos, pow-mono}
+use Rattle.codes.specs.Fetch.{fetched}
+use Rattle.tree.specs.declared.fetching.Levels.{Levels}
+use Rattle.tree.specs.Levels.{countOf, partOf, fetchedAt, Fits}
+use Rattle.tree.proofs.Heights.{height-is, height-above, height-bound}
+
+-- how many nodes the level below d others has
+pub count-is : (n d : ℕ) → countOf n (suc d) ≡ min (n + 1 - 2 ^ d) (2 ^ d)
+count-is n d =
+    let e : suc d - 1 ≡ d = omega arith in
+    rw (e, pow-succ' 2 d) (omega (arith, pow-pos d))
+
+pub fetched-at : (at : Levels) (s : List ℕ) (d v : ℕ) → 2 ^ d ≤ v → v < 2 * 2 ^ d
+    → fetchedAt at s v ≡ fetched (getD (at .codes) d 0) (min (at .pins + 1 - 2 ^ d) (2 ^ d)) (v - 2 ^ d)
+    (take (getD (at .ends) (d + 1) 0 - getD (at .ends) d 0) (drop (getD (at .ends) d 0) s))
+unfolding fetchedAt partOf
+fetched-at at s d v lo hi =
+    let e : suc d - 1 ≡ d = omega arith in
+    rw (height-is d v lo (omega arith), count-is (at .pins) d, e, add-one d)
+
+-- a level that has a node lies in the bytes
+pub record Level (at : Levels) (s : List ℕ) (d : ℕ) : Type 0 where
+  pub deep : d < 16
+  pub few : at .pins < 65536
+  pub in-order : getD (at .ends) d 0 ≤ getD (at .ends) (d + 1) 0
+  pub inside : getD (at .ends) (d + 1) 0 ≤ length s
+  pub short : getD (at .ends) (d + 1) 0 - getD (at .ends) d 0 < 4294967296
+
+pub level-fits : (at : Levels) (s : List ℕ) (d v : ℕ) → Fits at s → 2 ^ d ≤ v → v ≤ at .pins → Level at s d
+level-fits at s d v f lo hi =
+    let h = height-above (at .pins) d (omega arith) in
+    record {
+      deep = omega (arith, f .height-fits);
+      few = omega (arith, height-bound (at .pins), pow-mono (f .height-fits));
+      in-order = f .in-order d h;
+      inside = f .inside d h;
+      short = f .short d h;
+    }

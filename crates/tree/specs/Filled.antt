@@ -1,0 +1,19 @@
+-- What `fill` promises of the buffer that it works in.
+use mathlib.Core.Path.{_≡_}
+use mathlib.Core.Logic.{_⊎_}
+use mathlib.Core.List.{List}
+use Prim.Native.Nat.{ℕ, suc, _+_, _*_, _≤_, _<_}
+use lib.ListN.{length, getD}
+use Rattle.tree.specs.Stored.{stored}
+
+-- node u stands in the subtree of node w
+pub data Under : ℕ → ℕ → Type 0 where
+  here : {w u : ℕ} → w ≡ u → Under w u
+  in-left : {w u : ℕ} → Under (2 * w) u → Under w u
+  in-right : {w u : ℕ} → Under (2 * w + 1) u → Under w u
+
+-- every node under node w has its stored value, and every other entry has it too or is unchanged
+pub record Filled (xs : List ℕ) (w : ℕ) (before after : List ℕ) : Type 0 where
+  pub kept : length after ≡ length before
+  pub done : (i : ℕ) → Under w (suc i) → i < length xs → getD after i 0 ≡ stored xs (suc i)
+  pub others : (i : ℕ) → (getD after i 0 ≡ getD before i 0) ⊎ ((i < length xs) × (getD after i 0 ≡ stored xs (suc i)))

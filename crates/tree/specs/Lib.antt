@@ -1,0 +1,10 @@
+-- What the tree means. A reader of the public contracts needs Shape, Lists, Stored, Levels, Times and Walks; Filled is cited by a
+-- private function alone.
+pub mod Shape
+pub mod Lists
+pub mod Stored
+pub mod Levels
+pub mod Times
+pub mod Walks
+pub mod Marked
+pub mod Filled

@@ -1,0 +1,97 @@
+// The shape of the tree of n pins.
+ghost use mathlib.Core.Path.{_≡_};
+ghost use Prim.Native.Nat.{ℕ, _+_, _/_, _^_, _≤_, _<_};
+ghost use Rattle.tree.specs.Shape.{height, rootPlace, sideOf, childOf, stretch, ranked};
+
+// The stretch of the list under a node: where it starts and how many pins it has.
+pub struct Stretch {
+    pub start: usize,
+    pub pins: usize,
+}
+
+// A node's position in the whole list, or that the number is no node's.
+pub enum Ranked {
+    At(usize),
+    NoNode,
+}
+
+// The least h with 2^h - 1 at least n: the bits of n up to its highest one bit.
+pub fn height(n: usize) -> usize
+    ensures { λ r. ⌜ r ≡ height n ⌝ }
+{
+    (64 - usize::leading_zeros(n)) as usize
+}
+
+pub fn power_of_two(k: usize) -> usize
+    requires { ⌜ k < 64 ⌝ }
+    ensures { λ r. ⌜ r ≡ 2 ^ k ⌝ }
+{
+    1usize << k
+}
+
+// The root's place in a list of n, counted from 1. An empty list has no root, which 0 says.
+pub fn root_place(n: usize) -> usize
+    ensures { λ r. ⌜ (r ≤ n) × (1 ≤ n → 1 ≤ r) × (r ≡ rootPlace n) ⌝ }
+{
+    if n < 2 {
+        return n;
+    }
+    let half = power_of_two(height(n) - 2);
+    if n < 3 * half { n - half + 1 } else { 2 * half }
+}
+
+// The number of a node's child.
+pub fn child_of(v: usize, right: bool) -> usize
+    requires { ⌜ v < 2 ^ 63 ⌝ }
+    ensures { λ r. ⌜ r ≡ childOf right v ⌝ }
+{
+    if right { 2 * v + 1 } else { 2 * v }
+}
+
+// The stretch under a child: what follows or what precedes the place of the root in its parent's stretch.
+pub fn side_of(s: Stretch, place: usize, right: bool) -> Stretch
+    requires { ⌜ (1 ≤ place) × (place ≤ s .pins) × (place ≡ rootPlace (s .pins)) × (s .start + s .pins < 2 ^ 64) ⌝ }
+    ensures { λ r. ⌜ r ≡ sideOf right s ⌝ }
+{
+    if right {
+        return Stretch {
+            start: s.start + place,
+            pins: s.pins - place,
+        };
+    }
+    Stretch {
+        start: s.start,
+        pins: place - 1,
+    }
+}
+
+// The rank of node v, which stands `depth` levels below the node of stretch `s`.
+fn rank_under(s: Stretch, v: usize, depth: usize) -> Ranked
+    requires { ⌜ (depth < 64) × (s .start + s .pins < 2 ^ 64) ⌝ }
+    ensures { λ r. ⌜ ((n : ℕ) → 1 ≤ v / 2 ^ depth → stretch n (v / 2 ^ depth) ≡ s → r ≡ ranked n v) ⌝ }
+{
+    let pins = s.pins;
+    if pins == 0 {
+        return Ranked::NoNode;
+    }
+    let place = root_place(pins);
+    if depth == 0 {
+        return Ranked::At(s.start + place - 1);
+    }
+    let right = (v >> (depth - 1)) % 2 == 1;
+    rank_under(side_of(s, place, right), v, depth - 1)
+}
+
+// The rank of node v in a list of n.
+pub fn rank(n: usize, v: usize) -> Ranked
+    ensures { λ r. ⌜ r ≡ ranked n v ⌝ }
+{
+    if v == 0 {
+        return Ranked::NoNode;
+    }
+    let whole = Stretch {
+        start: 0,
+        pins: n,
+    };
+    rank_under(whole, v, height(v) - 1)
+}

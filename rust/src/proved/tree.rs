@@ -1,0 +1,138 @@
+//! Safe wrappers over the proved tree's C functions.
+
+use crate::reference::tree::{self, Levels, Refusal, HEIGHT};
+
+extern "C" {
+    fn tree_height(n: usize) -> usize;
+
+    /// The root's place in a list of n, counted from 1; 0 for an empty list.
+    fn tree_root_place(n: usize) -> usize;
+
+    /// The rank, or SIZE_MAX where v is no node.
+    fn tree_rank(n: usize, v: usize) -> usize;
+
+    /// Writes the stored values at the front of `values` and nothing past them. Requires
+    /// times that do not fall, and no fewer entries in `values` than times.
+    fn tree_construct(values: *mut u32, values_len: usize, times: *const u32, times_len: usize);
+
+    /// The time at position i plus 2^32 times the nodes opened; where refusal r met node u,
+    /// r times 2^40 plus u. Requires a height of at most 16, for each level of it a part
+    /// that lies in `s` and has fewer than 2^32 bytes, and i < pins.
+    fn tree_access(
+        s: *const u8,
+        s_len: usize,
+        codes: *const [u8; HEIGHT],
+        ends: *const [usize; HEIGHT + 1],
+        pins: usize,
+        i: usize,
+    ) -> u64;
+
+    /// As `tree_access`, with the position for the time. Requires the same of the levels.
+    fn tree_search(
+        s: *const u8,
+        s_len: usize,
+        codes: *const [u8; HEIGHT],
+        ends: *const [usize; HEIGHT + 1],
+        pins: usize,
+        t: u32,
+    ) -> u64;
+}
+
+#[inline]
+pub fn height(n: usize) -> usize {
+    // SAFETY: takes a number and requires nothing.
+    unsafe { tree_height(n) }
+}
+
+#[inline]
+pub fn root_place(n: usize) -> usize {
+    // SAFETY: takes a number and requires nothing.
+    unsafe { tree_root_place(n) }
+}
+
+#[inline]
+pub fn rank(n: usize, v: usize) -> Option<usize> {
+    // SAFETY: takes numbers and requires nothing.
+    match unsafe { tree_rank(n, v) } {
+        usize::MAX => None,
+        rank => Some(rank),
+    }
+}
+
+/// Writes the stored values at the front of `values`. Panics where the times fall or
+/// `values` has no room.
+pub fn construct(values: &mut [u32], times: &[u32]) {
+    assert!(times.is_sorted());
+    // SAFETY: the times do not fall.
+    unsafe { construct_sorted(values, times) }
+}
+
+/// As `construct`, for a caller who knows the times: only room is asserted.
+///
+/// # Safety
+/// The times do not fall.
+#[inline]
+pub unsafe fn construct_sorted(values: &mut [u32], times: &[u32]) {
+    assert!(values.len() >= times.len());
+    // SAFETY: the pointers and lengths are slices'; the rest is asserted or the caller's.
+    unsafe {
+        tree_construct(
+            values.as_mut_ptr(),
+            values.len(),
+            times.as_ptr(),
+            times.len(),
+        )
+    }
+}
+
+/// Levels that the C functions may be given with these bytes.
+pub struct Tree<'a> {
+    s: &'a [u8],
+    levels: &'a Levels,
+}
+
+impl<'a> Tree<'a> {
+    /// Asserts what the C functions require, once for all calls.
+    pub fn new(s: &'a [u8], levels: &'a Levels) -> Self {
+        let height = tree::height(levels.pins);
+        assert!(height <= HEIGHT);
+        for part in levels.ends[..=height].windows(2) {
+            assert!(part[0] <= part[1] && part[1] <= s.len());
+            assert!(((part[1] - part[0]) as u64) < 1 << 32);
+        }
+        Tree { s, levels }
+    }
+
+    /// The time at position i and the nodes opened.
+    #[inline]
+    pub fn access(&self, i: usize) -> Result<(u32, usize), Refusal> {
+        let Levels { pins, codes, ends } = self.levels;
+        assert!(i < *pins);
+        // SAFETY: the pointers are a slice's and two arrays'; the requirements are asserted.
+        let answer = unsafe { tree_access(self.s.as_ptr(), self.s.len(), codes, ends, *pins, i) };
+        let (time, nodes) = outcome(answer)?;
+        Ok((time, nodes))
+    }
+
+    /// The position and the nodes opened.
+    #[inline]
+    pub fn search(&self, t: u32) -> Result<(usize, usize), Refusal> {
+        let Levels { pins, codes, ends } = self.levels;
+        // SAFETY: the pointers are a slice's and two arrays'; the requirements are asserted.
+        let answer = unsafe { tree_search(self.s.as_ptr(), self.s.len(), codes, ends, *pins, t) };
+        let (position, nodes) = outcome(answer)?;
+        Ok((position as usize, nodes))
+    }
+}
+
+/// The answer and the nodes opened, or the refusal, out of the one number for them.
+#[inline]
+fn outcome(answer: u64) -> Result<(u32, usize), Refusal> {
+    let node = (answer % (1 << 40)) as usize;
+    match answer >> 40 {
+        0 => Ok((answer as u32, (answer >> 32) as usize)),
+        9 => Err(Refusal::Fetch(node)),
+        10 => Err(Refusal::Time(node)),
+        _ => panic!("neither an answer nor refusal 9 or 10: {answer}"),
+    }
+}
