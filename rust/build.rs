@@ -1,7 +1,8 @@
 use std::env;
 
-/// The proved library's archives.
-const LIBRARIES: [&str; 2] = ["codes_c", "tree_c"];
+/// The proved library's archives. The upper layer comes first: where it holds the lower
+/// one's functions too, those are taken and the lower archive's are not.
+const LIBRARIES: [&str; 2] = ["tree_c", "codes_c"];
 
 fn main() {
     let package = env::var("CARGO_MANIFEST_DIR").expect("cargo sets CARGO_MANIFEST_DIR");

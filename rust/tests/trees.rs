@@ -478,20 +478,11 @@ impl Tally {
     }
 }
 
-/// Every position of a short list, some of a long one.
-fn some_positions(n: usize, random: &mut Random) -> Vec<usize> {
-    if n <= 20 {
-        return (0..n).collect();
-    }
-    let mut positions = vec![0, 1, n / 2, n - 2, n - 1];
-    positions.extend((0..5).map(|_| random.below(n)));
-    positions
-}
-
-/// Compares positions, and searches for the times found there or one more, and for others.
-fn check_damaged(tree: &Tree, tally: &mut Tally, random: &mut Random) {
+/// Compares at the positions, and searches for the times found there or one more, and for
+/// others.
+fn check_at(tree: &Tree, positions: &[usize], tally: &mut Tally, random: &mut Random) {
     let mut targets = vec![0, u32::MAX, random.skewed(), random.of_width(32)];
-    for i in some_positions(tree.levels.pins, random) {
+    for &i in positions {
         if let Some((time, _)) = tally.add(tree.check_access(i)) {
             targets.push(time.saturating_add(random.of_width(1)));
         }
@@ -499,6 +490,20 @@ fn check_damaged(tree: &Tree, tally: &mut Tally, random: &mut Random) {
     for t in targets {
         tally.add(tree.check_search(t));
     }
+}
+
+/// Compares at every position of a short list, at some of a long one.
+fn check_damaged(tree: &Tree, tally: &mut Tally, random: &mut Random) {
+    let n = tree.levels.pins;
+    let positions: Vec<usize> = match n {
+        0..=20 => (0..n).collect(),
+        _ => {
+            let ends = [0, 1, n / 2, n - 2, n - 1];
+            let others = [0; 5].map(|_| random.below(n));
+            ends.into_iter().chain(others).collect()
+        }
+    };
+    check_at(tree, &positions, tally, random);
 }
 
 /// Trees of lists of all sorts, in the chosen codes and in others.
@@ -524,15 +529,16 @@ fn every_change_of_one_byte() {
         let high: Vec<u32> = low.iter().rev().map(|&time| !time).collect();
         let chunked = 65 + n as u8 % 8;
         for mut tree in [
-            Tree::of_list(&low, chosen),
-            Tree::of_list(&high, |_, _| chunked),
+            Tree::of_list(&low, |_, _| chunked),
+            Tree::of_list(&high, chosen),
         ] {
             tree.surround(&mut random);
             for place in tree.bytes_of_parts() {
                 let byte = tree.s[place];
                 for change in 1..=255 {
                     tree.s[place] = byte ^ change;
-                    check_damaged(&tree, &mut tally, &mut random);
+                    let positions = [random.below(n), random.below(n), random.below(n)];
+                    check_at(&tree, &positions, &mut tally, &mut random);
                 }
                 tree.s[place] = byte;
             }

@@ -7,7 +7,7 @@ use native.Mathlib.Decide.{le-ind, decLt}
 use native.Mathlib.Omega.{arith}
 use lib.Dec.{eqb, ltb, eqb·suc-zero}
 use lib.Arith.{half-le}
-use lib.Pow.{pow-pos, pow-mono}
+use lib.Pow.{pow-pos, pow-mono, shl-shr, shr-mono, shr-lt, pow-add}
 use borrow.Author.Tests.{lt-ltb, le-ltb}
 use Rattle.tree.specs.Shape.{heightIn, height, rootPlace}
 
@@ -88,6 +88,15 @@ height-unique n m lt le =
 
 pub height-is : (k n : ℕ) → 2 ^ k ≤ n → n < 2 ^ suc k → height n ≡ suc k
 height-is k n lo hi = height-unique n (suc k) hi (omega arith)
+
+-- the highest binary digit
+pub top-digit : (n : ℕ) → 1 ≤ n → n / 2 ^ (height n - 1) ≡ 1
+top-digit n h =
+    let d = digits n h in
+    let e : height n - 1 ≡ d .top = omega (arith, d .is) in
+    let lo : 1 ≤ n / 2 ^ d .top = rw (shl-shr 1 (d .top)) at (shr-mono {a = 1 * 2 ^ d .top} {b = n} (d .top) (omega (arith, d .least))) in
+    let hi : n / 2 ^ d .top < 2 = shr-lt {n = n} 1 (d .top) (omega (arith, d .below, pow-add 2 1 (d .top))) in
+    rw e (omega arith)
 
 -- ---- the root's place
 

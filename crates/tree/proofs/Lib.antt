@@ -3,3 +3,5 @@ pub mod Heights
 pub mod NodeTimes
 pub mod Stretches
 pub mod NodeFetches
+pub mod Walks
+pub mod Steps

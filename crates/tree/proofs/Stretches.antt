@@ -8,9 +8,11 @@ use native.Mathlib.Decide.{decLt, ℕ-discrete}
 use native.Mathlib.Omega.{arith}
 use lib.Dec.{eqb}
 use lib.Arith.{half-le}
-use lib.Pow.{pow-pos, pow-mono}
-use borrow.Author.Tests.{le-ltb}
-use Rattle.tree.specs.Shape.{rootPlace, childOf, sideOf, stretchIn, stretch, rank}
+use lib.Pow.{pow-pos, pow-mono, shr-shr}
+use borrow.Author.Tests.{lt-ltb, le-ltb, eq-eqb, ne-eqb}
+use Rattle.tree.specs.declared.shape.Stretch.{Stretch}
+use Rattle.tree.specs.declared.shape.Ranked.the-variants.{At, NoNode}
+use Rattle.tree.specs.Shape.{rootPlace, childOf, sideOf, stretchIn, stretch, rank, ranked}
 use Rattle.tree.proofs.Heights.{height-step, digits, place-law, place-in, place-small}
 
 -- ---- a stretch from its parent's
@@ -53,6 +55,12 @@ child v h = go (ℕ-discrete (v % 2) 0)
     go : Dec (v % 2 ≡ 0) → Child v
     go (yes e) = left (v / 2) (omega arith) (omega arith)
     go (no e) = right (v / 2) (omega arith) (omega arith)
+
+-- the sides of a stretch lie in it, and have fewer pins
+pub side-in : (right : Bool) (s : Stretch) → 1 ≤ s .pins
+    → (sideOf right s .pins < s .pins) × (s .start ≤ sideOf right s .start) × (sideOf right s .start + sideOf right s .pins ≤ s .start + s .pins)
+side-in true s h = let p = place-in (s .pins) h in omega arith
+side-in false s h = let p = place-in (s .pins) h in omega arith
 
 -- ---- the pins of a stretch
 
@@ -158,3 +166,26 @@ pub rank-in : (n v : ℕ) → 1 ≤ v → v ≤ n → (suc (rank n v) ≡ stretc
     × (stretch n v .start ≤ rank n v) × (rank n v < stretch n v .start + stretch n v .pins)
 unfolding rank
 rank-in n v a b = let p = place-in (stretch n v .pins) (pins-of-node n v a b) in omega arith
+
+-- ---- the rank of any number
+
+pub ranked-node : (n v : ℕ) → 1 ≤ v → 1 ≤ stretch n v .pins → ranked n v ≡ At (rank n v)
+unfolding ranked
+ranked-node n v h p = rw (ne-eqb v 0 (omega arith), le-ltb n v (elim (decLt n v) [ yes k ↦ absurd (omega (arith, no-pins n v k)) | no k ↦ omega arith ]))
+
+-- nothing stands at or below a node with no pins
+pub ranked-none : (n u v : ℕ) → 1 ≤ u → u ≤ v → stretch n u .pins ≡ 0 → ranked n v ≡ NoNode
+unfolding ranked
+ranked-none n u v h k e = rw (ne-eqb v 0 (omega arith), lt-ltb n v (elim (decLt n u) [ yes l ↦ omega arith | no l ↦ absurd (omega (arith, pins-of-node n u h (omega arith))) ]))
+
+-- a number shifted by one bit less
+pub shift-half : (v d : ℕ) → 1 ≤ d → v / 2 ^ d ≡ v / 2 ^ (d - 1) / 2
+shift-half v d h = let e : d - 1 + 1 ≡ d = omega arith in sym (shr-shr v (d - 1) 1 ∙ rw e)
+
+-- every node but the root is one of its parent's children
+pub child-half : (v : ℕ) → v ≡ childOf (eqb (v % 2) 1) (v / 2)
+unfolding childOf
+child-half v = elim (ℕ-discrete (v % 2) 1) [
+  | yes e ↦ rw (eq-eqb (v % 2) 1 e) (omega arith)
+  | no e ↦ rw (ne-eqb (v % 2) 1 e) (omega arith)
+]

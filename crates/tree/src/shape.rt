@@ -31,7 +31,7 @@ pub fn power_of_two(k: usize) -> usize
 
 // The root's place in a list of n, counted from 1. An empty list has no root, which 0 says.
 pub fn root_place(n: usize) -> usize
-    ensures { λ r. ⌜ (r ≤ n) × (1 ≤ n → 1 ≤ r) × (r ≡ rootPlace n) ⌝ }
+    ensures { λ r. ⌜ r ≡ rootPlace n ⌝ }
 {
     if n < 2 {
         return n;

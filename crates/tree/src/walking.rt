@@ -56,7 +56,7 @@ fn time_under(v: usize, above: u32, d: u32) -> Opened
 }
 
 // Opens node v, which has `depth` levels and the time `above` above it. Above the root the time is 0.
-fn open(s: &[u8], levels: Levels, depth: usize, v: usize, above: u32) -> Opened
+fn open_node(s: &[u8], levels: Levels, depth: usize, v: usize, above: u32) -> Opened
     requires { ⌜ Fits levels (now s) ⌝ }
     requires { ⌜ (2 ^ depth ≤ v) × (v < 2 * 2 ^ depth) × (v ≤ levels .pins) ⌝ }
     requires { ⌜ nodeTime (fetchedAt levels (now s)) (v / 2) ≡ at above ⌝ }
@@ -85,7 +85,7 @@ pub fn access(s: &[u8], levels: Levels, i: usize) -> Accessed
     let mut nodes: usize = 0;
     loop {
         nodes += 1;
-        let opened = open(s, levels, depth, v, time);
+        let opened = open_node(s, levels, depth, v, time);
         match opened {
             Opened::Time(t) => {
                 time = t;
@@ -121,7 +121,7 @@ pub fn search(s: &[u8], levels: Levels, target: u32) -> Searched
     let mut position = levels.pins;
     while v <= levels.pins {
         nodes += 1;
-        let opened = open(s, levels, depth, v, time);
+        let opened = open_node(s, levels, depth, v, time);
         match opened {
             Opened::Time(t) => {
                 time = t;

@@ -5,14 +5,13 @@ use Rattle.tree.proofs.Heights.{Half, half-of, height-le, place-small}
 use Rattle.tree.specs.Shape.{height}
 use mathlib.Core.Path.{_≡_, sym, ap, _∙_}
 use Prim.Native.Nat.{ℕ, _-_, _*_, _^_, _≤_}
-use native.Mathlib.Nat.{le-refl}
 use borrow.Author.Tests.{lt-ltb, le-ltb}
 use borrow.Author.Needs.{needs}
 use Rattle.tree.proofs.shape.root_place.Statement.{statement}
 use Rattle.tree.proofs.shape.root_place.Tie as tie
 
 returns : tie.Need-returns
-returns c = (le-refl (c .before .args .n), λ h. h, sym (place-small (c .before .args .n) (c .if1 .taken)))
+returns c = sym (place-small (c .before .args .n) (c .if1 .taken))
 
 height-requires : tie.Need-height-requires
 height-requires c κs = search needs
@@ -43,14 +42,14 @@ returns-2 c =
     let n = c .before .before .before .before .args .n in
     let e : 2 ^ (height n - 2) ≡ c .before .power-of-two .result = omega (arith, ap (λ (k : ℕ). 2 ^ (k - 2)) (c .before .before .height .ensures)) in
     let h : Half n (c .before .power-of-two .result) = rw e at (half-of n (omega arith)) in
-    (omega (arith, h .least, h .below), λ x. omega arith, sym (h .place ∙ rw (lt-ltb n (3 * c .before .power-of-two .result) (c .if2 .taken))))
+    sym (h .place ∙ rw (lt-ltb n (3 * c .before .power-of-two .result) (c .if2 .taken)))
 
 returns-3 : tie.Need-returns-3
 returns-3 c =
     let n = c .before .before .before .before .args .n in
     let e : 2 ^ (height n - 2) ≡ c .before .power-of-two .result = omega (arith, ap (λ (k : ℕ). 2 ^ (k - 2)) (c .before .before .height .ensures)) in
     let h : Half n (c .before .power-of-two .result) = rw e at (half-of n (omega arith)) in
-    (h .least, λ x. omega (arith, h .below), sym (h .place ∙ rw (le-ltb n (3 * c .before .power-of-two .result) (omega arith))))
+    sym (h .place ∙ rw (le-ltb n (3 * c .before .power-of-two .result) (omega arith)))
 
 pub root-place-spec : {M : Type 1} → statement M
 root-place-spec =

@@ -1,4 +1,4 @@
--- `open` meets its contract.
+-- `open_node` meets its contract.
 use mathlib.Core.Path.{sym, ap, _∙_}
 use native.Mathlib.Omega.{arith}
 use lib.Pow.{pow-pos}
@@ -6,8 +6,8 @@ use Rattle.codes.specs.Fetch.{found}
 use Rattle.tree.specs.Levels.{fetchedAt}
 use Rattle.tree.proofs.NodeTimes.{time-step}
 use borrow.Author.Needs.{needs}
-use Rattle.tree.proofs.walking.open.Statement.{statement}
-use Rattle.tree.proofs.walking.open.Tie as tie
+use Rattle.tree.proofs.walking.open_node.Statement.{statement}
+use Rattle.tree.proofs.walking.open_node.Tie as tie
 
 stored-requires : tie.Need-stored-requires
 stored-requires c κs = search needs
@@ -33,7 +33,7 @@ returns-2 c =
     let e = sym (c .before .before .stored .ensures) ∙ ap found (c .enum-told .given .1) in
     sym (time-step (fetchedAt (a .levels) (a .s .now)) (a .v) (omega (arith, pow-pos (a .depth))) ∙ rw (c .before .before .before .before .pre .1 .1, e))
 
-pub open-spec : {M : Type 1} → statement M
-open-spec =
+pub open-node-spec : {M : Type 1} → statement M
+open-node-spec =
     tie.close
     (tie.spec stored-requires enum-known-found time-under-requires enum-told returns returns-2)

@@ -1,0 +1,146 @@
+-- One step of access and of search, as their loops make it.
+use mathlib.Core.Path.{_≡_, refl, sym, ap, _∙_}
+use mathlib.Core.Bool.{Bool, true, false, cond}
+use mathlib.Core.List.{List, [], _∷_}
+use Prim.Native.Nat.{ℕ, zero, suc, _+_, _-_, _*_, _/_, _^_, _≤_, _<_}
+use native.Mathlib.Nat.{zero-add, le-refl}
+use native.Mathlib.Numerals.{add-one}
+use native.Mathlib.Decide.{decLt}
+use native.Mathlib.Omega.{arith}
+use lib.Dec.{eqb, ltb}
+use lib.ListN.{length}
+use borrow.Author.Tests.{lt-ltb, le-ltb, eq-eqb, ne-eqb}
+use Rattle.tree.specs.declared.shape.Stretch.{Stretch}
+use Rattle.tree.specs.declared.fetching.Levels.{Levels}
+use Rattle.tree.specs.Shape.{rootPlace, childOf, sideOf, stretch, rank}
+use Rattle.tree.specs.Levels.{fetchedAt}
+use Rattle.tree.specs.Times.{Time, at, refused, known, nodeTime}
+use Rattle.tree.specs.Walks.{walk, Answer, found, stopped, met, toward, lastOf, accessAnswer, never, lastLeft, searchAnswer}
+use Rattle.tree.proofs.Heights.{place-in}
+use Rattle.tree.proofs.Stretches.{stretch-root, stretch-child, side-in, pins-of-node, no-pins}
+use Rattle.tree.proofs.NodeTimes.{time-above}
+use Rattle.tree.proofs.Walks.{child-bounds, parent-of, walk-out, walk-on, met-fine, met-refused}
+
+-- ---- where a walk stands
+
+-- at node v, `depth` levels down, with the stretch under it and its parent's time
+pub record Stands (levels : Levels) (s : List ℕ) (v depth : ℕ) (here : Stretch) (above : ℕ) : Type 0 where
+  pub one : 1 ≤ v
+  pub low : 2 ^ depth ≤ v
+  pub high : v < 2 * 2 ^ depth
+  pub under : stretch (levels .pins) v ≡ here
+  pub inside : here .start + here .pins ≤ levels .pins
+  pub parent : nodeTime (fetchedAt levels s) (v / 2) ≡ at above
+
+pub stands-root : (levels : Levels) (s : List ℕ) → Stands levels s 1 0 (record { start = 0; pins = levels .pins }) 0
+stands-root levels s = record {
+  one = le-refl 1;
+  low = omega arith;
+  high = omega arith;
+  under = stretch-root (levels .pins);
+  inside = omega arith;
+  parent = time-above (fetchedAt levels s);
+}
+
+module _ {levels : Levels} {s : List ℕ} {v depth : ℕ} {here : Stretch} {above : ℕ} (w : Stands levels s v depth here above) where
+  pub stands-pins : v ≤ levels .pins → 1 ≤ here .pins
+  stands-pins k = rw (w .under) at (pins-of-node (levels .pins) v (w .one) k)
+
+  pub stands-node : 1 ≤ here .pins → v ≤ levels .pins
+  stands-node h = elim (decLt (levels .pins) v) [ yes k ↦ absurd (omega (arith, rw (w .under) at (no-pins (levels .pins) v k))) | no k ↦ omega arith ]
+
+  pub stands-place : v ≤ levels .pins → (1 ≤ rootPlace (here .pins)) × (rootPlace (here .pins) ≤ here .pins)
+  stands-place k = place-in (here .pins) (stands-pins k)
+
+  pub stands-rank : rank (levels .pins) v ≡ here .start + rootPlace (here .pins) - 1
+  unfolding rank
+  stands-rank = rw (w .under)
+
+  pub stands-child : (right : Bool) (t : ℕ) → v ≤ levels .pins → nodeTime (fetchedAt levels s) v ≡ at t
+      → Stands levels s (childOf right v) (depth + 1) (sideOf right here) t
+  stands-child right t k e =
+      let i = side-in right here (stands-pins k) in
+      let b = child-bounds right v in
+      record {
+        one = omega (arith, w .one);
+        low = rw (add-one depth) (omega (arith, w .low));
+        high = rw (add-one depth) (omega (arith, w .high));
+        under = stretch-child (levels .pins) right v (w .one) ∙ rw (w .under);
+        inside = omega (arith, w .inside);
+        parent = rw (parent-of right v) e;
+      }
+
+-- ---- search
+
+-- what a search answers that goes on from node v, with position p so far and k nodes opened
+abbrev pub searchFrom : ℕ → (ℕ → Time) → ℕ → ℕ → ℕ → ℕ → Answer
+searchFrom n time t p k v =
+    let past : ℕ → Bool = λ u. ltb (known (time u)) t in
+    let nodes = walk n never past v in
+    met time (found (lastLeft n past p nodes) (k + length nodes)) nodes
+
+module _ (n : ℕ) (time : ℕ → Time) (t : ℕ) where
+  pub search-start : searchAnswer n time t ≡ searchFrom n time t n 0 1
+  unfolding searchAnswer
+  search-start = rw zero-add
+
+  pub search-end : (p k v : ℕ) → n < v → searchFrom n time t p k v ≡ found p k
+  unfolding lastLeft met
+  search-end p k v h = rw (walk-out n never (λ u. ltb (known (time u)) t) v h) (ap (found p) (omega arith))
+
+  pub search-refused : (p k v r u : ℕ) → 1 ≤ v → v ≤ n → time v ≡ refused r u → searchFrom n time t p k v ≡ stopped r u
+  search-refused p k v r u h l e =
+      rw (walk-on n never (λ u. ltb (known (time u)) t) v h l) (met-refused time _ v r u _ e)
+
+  pub search-step : (p k v x : ℕ) → 1 ≤ v → v ≤ n → time v ≡ at x
+      → searchFrom n time t p k v ≡ searchFrom n time t (cond (ltb x t) p (rank n v)) (k + 1) (childOf (ltb x t) v)
+  unfolding lastLeft
+  search-step p k v x h l e =
+      let past : ℕ → Bool = λ u. ltb (known (time u)) t in
+      let on : Bool → ℕ → Answer = λ b j.
+      met time (found (lastLeft n past (cond b p (rank n v)) (walk n never past (childOf b v))) j) (walk n never past (childOf b v)) in
+      let m = length (walk n never past (childOf (ltb x t) v)) in
+      let j : k + suc m ≡ k + 1 + m = omega arith in
+      rw (walk-on n never past v h l)
+      (met-fine time _ v x _ e ∙ ap (λ (z : Time). on (ltb (known z) t) (k + suc (length (walk n never past (childOf (ltb (known z) t) v))))) e ∙ ap (on (ltb x t)) j)
+
+-- ---- access
+
+-- a position in a stretch, other than its root's, is in the side that the comparison with the root's tells
+pub side-holds : (s : Stretch) (i r : ℕ) → r ≡ s .start + rootPlace (s .pins) - 1 → s .start ≤ i → i < s .start + s .pins → (r ≡ i → ⊥)
+    → (sideOf (ltb r i) s .start ≤ i) × (i < sideOf (ltb r i) s .start + sideOf (ltb r i) s .pins)
+side-holds s i r e lo hi ne =
+    let p = place-in (s .pins) (omega arith) in
+    elim (decLt r i) [
+      | yes h ↦ rw (lt-ltb r i h) (omega arith)
+      | no h ↦ let k : i < r = omega arith in rw (le-ltb r i (omega arith)) (omega arith)
+    ]
+
+-- what an access at i answers that goes on from node v, with k nodes opened
+abbrev pub accessFrom : ℕ → (ℕ → Time) → ℕ → ℕ → ℕ → Answer
+accessFrom n time i k v =
+    let nodes = walk n (λ u. eqb (rank n u) i) (λ u. ltb (rank n u) i) v in
+    met time (found (known (time (lastOf (v / 2) nodes))) (k + length nodes)) nodes
+
+module _ (n : ℕ) (time : ℕ → Time) (i : ℕ) where
+  pub access-start : accessAnswer n time i ≡ accessFrom n time i 0 1
+  unfolding accessAnswer toward
+  access-start = rw zero-add
+
+  pub access-refused : (k v r u : ℕ) → 1 ≤ v → v ≤ n → time v ≡ refused r u → accessFrom n time i k v ≡ stopped r u
+  access-refused k v r u h l e = rw (walk-on n (λ u. eqb (rank n u) i) (λ u. ltb (rank n u) i) v h l) (met-refused time _ v r u _ e)
+
+  pub access-end : (k v x : ℕ) → 1 ≤ v → v ≤ n → time v ≡ at x → rank n v ≡ i → accessFrom n time i k v ≡ found x (k + 1)
+  unfolding lastOf met
+  access-end k v x h l e r =
+      rw (walk-on n (λ u. eqb (rank n u) i) (λ u. ltb (rank n u) i) v h l, eq-eqb (rank n v) i r, e)
+
+  pub access-step : (k v x : ℕ) → 1 ≤ v → v ≤ n → time v ≡ at x → (rank n v ≡ i → ⊥)
+      → accessFrom n time i k v ≡ accessFrom n time i (k + 1) (childOf (ltb (rank n v) i) v)
+  unfolding lastOf
+  access-step k v x h l e r =
+      let u = childOf (ltb (rank n v) i) v in
+      let nodes = walk n (λ u. eqb (rank n u) i) (λ u. ltb (rank n u) i) u in
+      let j : k + suc (length nodes) ≡ k + 1 + length nodes = omega arith in
+      rw (walk-on n (λ u. eqb (rank n u) i) (λ u. ltb (rank n u) i) v h l, ne-eqb (rank n v) i r)
+      (met-fine time _ v x nodes e ∙ rw (j, parent-of (ltb (rank n v) i) v))

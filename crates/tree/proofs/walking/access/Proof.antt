@@ -1,0 +1,123 @@
+-- `access` meets its contract.
+use mathlib.Core.Path.{_≡_, refl, sym, ap, _∙_}
+use Prim.Native.Nat.{_+_, _-_, _≤_, _<_}
+use native.Mathlib.Omega.{arith}
+use lib.Dec.{ltb}
+use borrow.Author.Needs.{needs}
+use Rattle.tree.specs.Shape.{rank}
+use Rattle.tree.specs.Levels.{fetchedAt}
+use Rattle.tree.specs.Times.{at, nodeTime, timeOpened}
+use Rattle.tree.specs.Walks.{accessAnswer}
+use Rattle.tree.proofs.Heights.{place-in}
+use Rattle.tree.proofs.Stretches.{side-in}
+use Rattle.tree.proofs.NodeFetches.{level-fits}
+use Rattle.tree.proofs.Steps.{Stands, stands-root, stands-node, stands-rank, stands-child, side-holds, accessFrom, access-start, access-end, access-refused, access-step}
+use Rattle.tree.proofs.walking.access.Statement.{statement}
+use Rattle.tree.proofs.walking.access.Tie as tie
+
+abbrev Inv-loop : tie.InvT-loop
+Inv-loop s levels i v₀ depth₀ here₀ time₀ nodes₀ v depth here time nodes =
+    Stands levels s v depth here time × (nodes ≡ depth) × (here .start ≤ i) × (i < here .start + here .pins)
+    × (accessFrom (levels .pins) (nodeTime (fetchedAt levels s)) i nodes v ≡ accessAnswer (levels .pins) (nodeTime (fetchedAt levels s)) i)
+
+abbrev μ-loop : tie.MeasureT-loop
+μ-loop s levels i v₀ depth₀ here₀ time₀ nodes₀ v depth here time nodes = here .pins
+
+loop-holds : tie.Need-loop-holds Inv-loop μ-loop
+loop-holds c =
+    let a = c .before .args in
+    (stands-root (a .levels) (a .s .now), refl, omega arith, omega (arith, c .before .pre .1), sym (access-start (a .levels .pins) (nodeTime (fetchedAt (a .levels) (a .s .now))) (a .i)))
+
+add-nodes : tie.Need-add-nodes Inv-loop μ-loop
+add-nodes c = omega (arith, level-fits (c .before .before .args .levels) (c .before .before .args .s .now) (c .loop .depth) (c .loop .v) (c .before .before .pre .0) (c .loop .inv .0 .low) (stands-node (c .loop .inv .0) (omega arith)))
+
+open-node-requires : tie.Need-open-node-requires Inv-loop μ-loop
+open-node-requires c κs =
+    let w = c .loop .inv .0 in
+    (c .before .before .pre .0, ((w .low, w .high, stands-node (c .loop .inv .0) (omega arith)), w .parent))
+
+enum-known-opened : tie.Need-enum-known-opened Inv-loop μ-loop
+enum-known-opened c = search needs
+
+enum-known-opened-2 : tie.Need-enum-known-opened-2 Inv-loop μ-loop
+enum-known-opened-2 c = search needs
+
+returns : tie.Need-returns Inv-loop μ-loop
+returns c =
+    let a = c .before .before .before .before .before .before .args in
+    let l = c .before .before .before .before .loop in
+    let e = sym (c .before .before .before .open-node .ensures) ∙ ap timeOpened (c .before .opened2 .given .1) in
+    sym (access-refused (a .levels .pins) (nodeTime (fetchedAt (a .levels) (a .s .now))) (a .i) (l .nodes) (l .v) _ _ (l .inv .0 .one) (stands-node (c .before .before .before .before .loop .inv .0) (omega arith)) e) ∙ l .inv .4
+
+root-place-requires : tie.Need-root-place-requires Inv-loop μ-loop
+root-place-requires c κs = tt
+
+add-rank : tie.Need-add-rank Inv-loop μ-loop
+add-rank c = omega (arith, place-in (c .before .before .before .before .before .before .loop .here .pins) (omega arith), c .before .before .before .before .before .before .loop .inv .0 .inside)
+
+sub-rank : tie.Need-sub-rank Inv-loop μ-loop
+sub-rank c = omega (arith, place-in (c .before .before .before .before .before .before .loop .here .pins) (omega arith), c .before .before .before .before .before .before .loop .inv .0 .inside)
+
+returns-2 : tie.Need-returns-2 Inv-loop μ-loop
+returns-2 c =
+    let a = c .before .before .before .before .before .before .before .before .before .args in
+    let l = c .before .before .before .before .before .before .before .loop in
+    let e = sym (c .before .before .before .before .before .before .open-node .ensures) ∙ ap timeOpened (c .before .before .before .before .opened .given .1) in
+    let r : rank (a .levels .pins) (l .v) ≡ a .i = stands-rank (l .inv .0) ∙ omega arith in
+    sym (access-end (a .levels .pins) (nodeTime (fetchedAt (a .levels) (a .s .now))) (a .i) (l .nodes) (l .v) (c .before .before .before .before .opened .given .0 .0) (l .inv .0 .one) (stands-node (c .before .before .before .before .before .before .before .loop .inv .0) (omega arith)) e r) ∙ l .inv .4
+
+side-of-requires : tie.Need-side-of-requires Inv-loop μ-loop
+side-of-requires c κs = omega (arith, place-in (c .before .before .before .before .before .before .before .loop .here .pins) (omega arith), c .before .before .before .before .before .before .before .loop .inv .0 .inside)
+
+child-of-requires : tie.Need-child-of-requires Inv-loop μ-loop
+child-of-requires c κs = omega (arith, stands-node (c .before .before .before .before .before .before .before .before .loop .inv .0) (omega arith), level-fits (c .before .before .before .before .before .before .before .before .before .before .args .levels) (c .before .before .before .before .before .before .before .before .before .before .args .s .now) (c .before .before .before .before .before .before .before .before .loop .depth) (c .before .before .before .before .before .before .before .before .loop .v) (c .before .before .before .before .before .before .before .before .before .before .pre .0) (c .before .before .before .before .before .before .before .before .loop .inv .0 .low) (stands-node (c .before .before .before .before .before .before .before .before .loop .inv .0) (omega arith)))
+
+add-depth : tie.Need-add-depth Inv-loop μ-loop
+add-depth c = omega (arith, level-fits (c .before .before .before .before .before .before .before .before .before .before .before .args .levels) (c .before .before .before .before .before .before .before .before .before .before .before .args .s .now) (c .before .before .before .before .before .before .before .before .before .loop .depth) (c .before .before .before .before .before .before .before .before .before .loop .v) (c .before .before .before .before .before .before .before .before .before .before .before .pre .0) (c .before .before .before .before .before .before .before .before .before .loop .inv .0 .low) (stands-node (c .before .before .before .before .before .before .before .before .before .loop .inv .0) (omega arith)))
+
+loop-less : tie.Need-loop-less Inv-loop μ-loop
+loop-less c =
+    let l = c .before .before .before .before .before .before .before .before .before .loop in
+    rw (c .before .side-of .ensures) (side-in (ltb (l .here .start + c .before .before .before .before .root-place .result - 1) (c .before .before .before .before .before .before .before .before .before .before .before .args .i)) (l .here) (omega arith) .0)
+
+loop-again : tie.Need-loop-again Inv-loop μ-loop
+loop-again c =
+    let a = c .before .before .before .before .before .before .before .before .before .before .before .args in
+    let l = c .before .before .before .before .before .before .before .before .before .loop in
+    let n = a .levels .pins in
+    let time = nodeTime (fetchedAt (a .levels) (a .s .now)) in
+    let x = c .before .before .before .before .before .before .opened .given .0 .0 in
+    let e : time (l .v) ≡ at x = sym (c .before .before .before .before .before .before .before .before .open-node .ensures) ∙ ap timeOpened (c .before .before .before .before .before .before .opened .given .1) in
+    let r : l .here .start + c .before .before .before .before .root-place .result - 1 ≡ rank n (l .v) = sym (stands-rank (l .inv .0) ∙ omega arith) in
+    let ne : rank n (l .v) ≡ a .i → ⊥ = λ z. c .before .before .if1 .left (r ∙ z) in
+    let k = stands-node (c .before .before .before .before .before .before .before .before .before .loop .inv .0) (omega arith) in
+    let h = side-holds (l .here) (a .i) (rank n (l .v)) (stands-rank (l .inv .0)) (l .inv .2) (l .inv .3) ne in
+    rw (c .child-of .ensures, c .before .side-of .ensures, r) (
+      stands-child (l .inv .0) (ltb (rank n (l .v)) (a .i)) x k e,
+      omega arith,
+      h .0,
+      h .1,
+      sym (access-step n time (a .i) (l .nodes) (l .v) x (l .inv .0 .one) k e ne) ∙ l .inv .4,
+    )
+
+pub access-spec : {M : Type 1} → statement M
+access-spec =
+    tie.close
+    (tie.spec
+    Inv-loop
+    μ-loop
+    loop-holds
+    add-nodes
+    open-node-requires
+    enum-known-opened
+    enum-known-opened-2
+    returns
+    root-place-requires
+    add-rank
+    sub-rank
+    returns-2
+    side-of-requires
+    child-of-requires
+    add-depth
+    loop-less
+    loop-again)

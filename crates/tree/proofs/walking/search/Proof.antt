@@ -1,0 +1,121 @@
+-- `search` meets its contract.
+use mathlib.Core.Path.{_≡_, refl, sym, ap, _∙_}
+use mathlib.Core.Logic.{⊎-elim}
+use mathlib.Core.Bool.{cond}
+use borrow.Author.Tests.{lt-ltb, le-ltb}
+use lib.Dec.{ltb}
+use borrow.Author.Needs.{needs}
+use native.Mathlib.Omega.{arith}
+use Rattle.tree.specs.Shape.{rank}
+use Rattle.tree.specs.Levels.{fetchedAt}
+use Rattle.tree.specs.Times.{at, nodeTime, timeOpened}
+use Rattle.tree.specs.Walks.{searchAnswer}
+use Rattle.tree.proofs.Stretches.{side-in}
+use Rattle.tree.proofs.NodeFetches.{level-fits}
+use Rattle.tree.proofs.Steps.{Stands, stands-root, stands-pins, stands-place, stands-rank, stands-child, searchFrom, search-start, search-end, search-refused, search-step}
+use Rattle.tree.proofs.walking.search.Statement.{statement}
+use Rattle.tree.proofs.walking.search.Tie as tie
+
+abbrev Inv-loop : tie.InvT-loop
+Inv-loop s levels target v₀ depth₀ here₀ time₀ nodes₀ position₀ v depth here time nodes position =
+    Stands levels s v depth here time × (nodes ≡ depth)
+    × (searchFrom (levels .pins) (nodeTime (fetchedAt levels s)) target position nodes v ≡ searchAnswer (levels .pins) (nodeTime (fetchedAt levels s)) target)
+
+abbrev μ-loop : tie.MeasureT-loop
+μ-loop s levels target v₀ depth₀ here₀ time₀ nodes₀ position₀ v depth here time nodes position = here .pins
+
+loop-holds : tie.Need-loop-holds Inv-loop μ-loop
+loop-holds c =
+    let a = c .before .args in
+    (stands-root (a .levels) (a .s .now), refl, sym (search-start (a .levels .pins) (nodeTime (fetchedAt (a .levels) (a .s .now))) (a .target)))
+
+add-nodes : tie.Need-add-nodes Inv-loop μ-loop
+add-nodes c = omega (arith, level-fits (c .before .before .before .before .args .levels) (c .before .before .before .before .args .s .now) (c .before .before .loop .depth) (c .before .before .loop .v) (c .before .before .before .before .pre) (c .before .before .loop .inv .0 .low) (omega arith))
+
+open-node-requires : tie.Need-open-node-requires Inv-loop μ-loop
+open-node-requires c κs =
+    let w = c .before .before .loop .inv .0 in
+    (c .before .before .before .before .pre, ((w .low, w .high, omega arith), w .parent))
+
+enum-known-opened : tie.Need-enum-known-opened Inv-loop μ-loop
+enum-known-opened c = search needs
+
+enum-known-opened-2 : tie.Need-enum-known-opened-2 Inv-loop μ-loop
+enum-known-opened-2 c = search needs
+
+returns : tie.Need-returns Inv-loop μ-loop
+returns c =
+    let a = c .before .before .before .before .before .before .before .before .args in
+    let l = c .before .before .before .before .before .before .loop in
+    let e = sym (c .before .before .before .open-node .ensures) ∙ ap timeOpened (c .before .opened2 .given .1) in
+    sym (search-refused (a .levels .pins) (nodeTime (fetchedAt (a .levels) (a .s .now))) (a .target) (l .position) (l .nodes) (l .v) _ _ (l .inv .0 .one) (omega arith) e) ∙ l .inv .2
+
+root-place-requires : tie.Need-root-place-requires Inv-loop μ-loop
+root-place-requires c κs = tt
+
+add-position : tie.Need-add-position Inv-loop μ-loop
+add-position c = omega (arith, stands-place (c .before .before .before .before .before .before .before .before .before .loop .inv .0) (omega arith), c .before .before .before .before .before .before .before .before .before .loop .inv .0 .inside)
+
+sub-position : tie.Need-sub-position Inv-loop μ-loop
+sub-position c = omega (arith, stands-place (c .before .before .before .before .before .before .before .before .before .loop .inv .0) (omega arith), c .before .before .before .before .before .before .before .before .before .loop .inv .0 .inside)
+
+side-of-requires : tie.Need-side-of-requires Inv-loop μ-loop
+side-of-requires c κs = omega (arith, stands-place (c .before .before .before .before .before .before .before .before .loop .inv .0) (omega arith), c .before .before .before .before .before .before .before .before .loop .inv .0 .inside)
+
+child-of-requires : tie.Need-child-of-requires Inv-loop μ-loop
+child-of-requires c κs = omega (arith, level-fits (c .before .before .before .before .before .before .before .before .before .before .before .args .levels) (c .before .before .before .before .before .before .before .before .before .before .before .args .s .now) (c .before .before .before .before .before .before .before .before .before .loop .depth) (c .before .before .before .before .before .before .before .before .before .loop .v) (c .before .before .before .before .before .before .before .before .before .before .before .pre) (c .before .before .before .before .before .before .before .before .before .loop .inv .0 .low) (omega arith))
+
+add-depth : tie.Need-add-depth Inv-loop μ-loop
+add-depth c = omega (arith, level-fits (c .before .before .before .before .before .before .before .before .before .before .before .before .args .levels) (c .before .before .before .before .before .before .before .before .before .before .before .before .args .s .now) (c .before .before .before .before .before .before .before .before .before .before .loop .depth) (c .before .before .before .before .before .before .before .before .before .before .loop .v) (c .before .before .before .before .before .before .before .before .before .before .before .before .pre) (c .before .before .before .before .before .before .before .before .before .before .loop .inv .0 .low) (omega arith))
+
+loop-less : tie.Need-loop-less Inv-loop μ-loop
+loop-less c =
+    let l = c .before .before .before .before .before .before .before .before .before .before .loop in
+    let x = c .before .before .before .before .before .opened .given .0 .0 in
+    rw (c .before .side-of .ensures) (side-in (ltb x (c .before .before .before .before .before .before .before .before .before .before .before .before .args .target)) (l .here) (stands-pins (l .inv .0) (omega arith)) .0)
+
+loop-again : tie.Need-loop-again Inv-loop μ-loop
+loop-again c =
+    let a = c .before .before .before .before .before .before .before .before .before .before .before .before .args in
+    let l = c .before .before .before .before .before .before .before .before .before .before .loop in
+    let n = a .levels .pins in
+    let time = nodeTime (fetchedAt (a .levels) (a .s .now)) in
+    let x = c .before .before .before .before .before .opened .given .0 .0 in
+    let e : time (l .v) ≡ at x = sym (c .before .before .before .before .before .before .before .open-node .ensures) ∙ ap timeOpened (c .before .before .before .before .before .opened .given .1) in
+    let p : c .before .before .if2 .position ≡ cond (ltb x (a .target)) (l .position) (rank n (l .v)) = ⊎-elim
+    (λ w. w .2 ∙ rw (le-ltb x (a .target) (w .0 .taken), c .before .before .before .root-place .ensures) (sym (stands-rank (l .inv .0))))
+    (λ w. w .1 ∙ rw (lt-ltb x (a .target) (omega (arith, w .0 .left))))
+    (c .before .before .if2 .came) in
+    rw (c .child-of .ensures, c .before .side-of .ensures, p) (
+      stands-child (l .inv .0) (ltb x (a .target)) x (omega arith) e,
+      omega arith,
+      sym (search-step n time (a .target) (l .position) (l .nodes) (l .v) x (l .inv .0 .one) (omega arith) e) ∙ l .inv .2,
+    )
+
+returns-2 : tie.Need-returns-2 Inv-loop μ-loop
+returns-2 c =
+    let a = c .before .before .before .before .args in
+    let l = c .before .before .loop in
+    sym (search-end (a .levels .pins) (nodeTime (fetchedAt (a .levels) (a .s .now))) (a .target) (l .position) (l .nodes) (l .v) (omega arith)) ∙ l .inv .2
+
+pub search-spec : {M : Type 1} → statement M
+search-spec =
+    tie.close
+    (tie.spec
+    Inv-loop
+    μ-loop
+    loop-holds
+    add-nodes
+    open-node-requires
+    enum-known-opened
+    enum-known-opened-2
+    returns
+    root-place-requires
+    add-position
+    sub-position
+    side-of-requires
+    child-of-requires
+    add-depth
+    loop-less
+    loop-again
+    returns-2)
