@@ -13,8 +13,8 @@ use gemcotton_tests::straightforward::tree as straightforward;
 /// "The greatest pin count".
 const PINS: usize = 65_535;
 
-/// Counts around the powers of two and three times these, where the root's place takes
-/// another course. The last is the greatest of all, where the limit lets it.
+/// Counts around the powers of two and three times these, where the height or the root's
+/// case changes, up to the limit. The greatest count of all is among them.
 fn around_powers(limit: usize) -> Vec<usize> {
     let mut counts = Vec::new();
     for k in 0..=64 {
@@ -57,8 +57,8 @@ fn no_nodes(n: usize) -> Vec<usize> {
 }
 
 fn check_ranks(n: usize) {
-    for (i, &rank) in reference::ranks(n).iter().enumerate() {
-        check_rank(n, i + 1, Some(rank));
+    for (v, rank) in (1..).zip(reference::ranks(n)) {
+        check_rank(n, v, Some(rank));
     }
     for v in no_nodes(n) {
         check_rank(n, v, None);
@@ -69,13 +69,8 @@ fn check_ranks(n: usize) {
 fn both_reference_ranks_agree() {
     for n in 0..=600 {
         let mut ranks = reference::ranks(n);
-        for (i, &rank) in ranks.iter().enumerate() {
-            assert_eq!(
-                reference::rank(n, i + 1),
-                Some(rank),
-                "node {} of {n}",
-                i + 1
-            );
+        for (v, &rank) in (1..).zip(&ranks) {
+            assert_eq!(reference::rank(n, v), Some(rank), "node {v} of {n}");
         }
         for v in no_nodes(n) {
             assert_eq!(reference::rank(n, v), None, "node {v} of {n}");
@@ -112,7 +107,7 @@ fn rank_in_huge_lists() {
 
 // ---- Lists ----
 
-/// n times with random gaps, the greatest time again where they would pass it.
+/// n times with these gaps. Where they would pass the greatest time, they stay there.
 fn rising(n: usize, mut gap: impl FnMut() -> u32) -> Vec<u32> {
     let mut time = 0u32;
     let next = |_| {
@@ -145,7 +140,7 @@ fn lists(n: usize, random: &mut Random) -> Vec<Vec<u32>> {
             .map(|i| if i < jump { 0 } else { u32::MAX })
             .collect(),
         // Mostly chords.
-        rising(n, || random.of_width(7) & random.of_width(1).wrapping_neg()),
+        rising(n, || [0, 0, 0, random.of_width(7)][random.below(4)]),
         rising(n, || random.of_width(2)),
         rising(n, || random.skewed() & random.skewed() & random.skewed()),
         // Close together at the least times, and at the greatest.
@@ -323,9 +318,9 @@ impl<'a> Answers<'a> {
     fn new(times: &'a [u32]) -> Self {
         let ranks = reference::ranks(times.len());
         let mut nodes = vec![0; times.len()];
-        for (i, &rank) in ranks.iter().enumerate() {
-            // The level that node i + 1 is in.
-            nodes[rank] = reference::height(i + 1);
+        for (v, &rank) in (1..).zip(&ranks) {
+            // A tree of v nodes ends with the level that v is in.
+            nodes[rank] = reference::height(v);
         }
         Answers {
             times,
@@ -431,26 +426,23 @@ fn access_and_search_in_the_longest_lists() {
 #[test]
 fn search_without_pins() {
     let mut random = Random(7);
-    for s in [vec![], vec![0], random.bytes(9)] {
-        let mut levels = reference::levels_of(&[], width_32).1;
-        levels.ends[0] = s.len();
+    for _ in 0..20 {
+        let mut tree = Tree::of_list(&[], chosen);
+        tree.surround(&mut random);
         for t in [0, 1, random.skewed(), u32::MAX] {
-            let tree = Tree {
-                s: s.clone(),
-                levels: levels.clone(),
-            };
             assert_eq!(tree.check_search(t), Ok((0, 0)));
         }
+        tree.s.clear();
+        assert_eq!(tree.check_search(random.skewed()), Ok((0, 0)));
     }
 }
 
 // ---- Damaged trees ----
 
 /// The pin counts of most damaged trees.
-const FEW: [usize; 27] = [
-    1, 2, 3, 4, 5, 6, 7, 8, 9, 10, 11, 12, 13, 14, 15, 16, 17, 18, 19, 20, 31, 32, 47, 48, 63, 64,
-    300,
-];
+fn few_pins() -> impl Iterator<Item = usize> {
+    (1..=20).chain([31, 32, 47, 48, 63, 64, 300])
+}
 
 /// How often an answer or a refusal came.
 #[derive(Default, Debug)]
@@ -478,11 +470,20 @@ impl Tally {
     }
 }
 
-/// Compares at the positions, and searches for the times found there or one more, and for
-/// others.
-fn check_at(tree: &Tree, positions: &[usize], tally: &mut Tally, random: &mut Random) {
+/// Every position of a short list, some of a long one.
+fn some_positions(n: usize, random: &mut Random) -> Vec<usize> {
+    if n <= 20 {
+        return (0..n).collect();
+    }
+    let mut positions = vec![0, 1, n / 2, n - 2, n - 1];
+    positions.extend((0..5).map(|_| random.below(n)));
+    positions
+}
+
+/// Compares at positions, and searches for the times found there or one more, and for others.
+fn check_damaged(tree: &Tree, tally: &mut Tally, random: &mut Random) {
     let mut targets = vec![0, u32::MAX, random.skewed(), random.of_width(32)];
-    for &i in positions {
+    for i in some_positions(tree.levels.pins, random) {
         if let Some((time, _)) = tally.add(tree.check_access(i)) {
             targets.push(time.saturating_add(random.of_width(1)));
         }
@@ -490,20 +491,6 @@ fn check_at(tree: &Tree, positions: &[usize], tally: &mut Tally, random: &mut Ra
     for t in targets {
         tally.add(tree.check_search(t));
     }
-}
-
-/// Compares at every position of a short list, at some of a long one.
-fn check_damaged(tree: &Tree, tally: &mut Tally, random: &mut Random) {
-    let n = tree.levels.pins;
-    let positions: Vec<usize> = match n {
-        0..=20 => (0..n).collect(),
-        _ => {
-            let ends = [0, 1, n / 2, n - 2, n - 1];
-            let others = [0; 5].map(|_| random.below(n));
-            ends.into_iter().chain(others).collect()
-        }
-    };
-    check_at(tree, &positions, tally, random);
 }
 
 /// Trees of lists of all sorts, in the chosen codes and in others.
@@ -537,8 +524,7 @@ fn every_change_of_one_byte() {
                 let byte = tree.s[place];
                 for change in 1..=255 {
                     tree.s[place] = byte ^ change;
-                    let positions = [random.below(n), random.below(n), random.below(n)];
-                    check_at(&tree, &positions, &mut tally, &mut random);
+                    check_damaged(&tree, &mut tally, &mut random);
                 }
                 tree.s[place] = byte;
             }
@@ -551,7 +537,7 @@ fn every_change_of_one_byte() {
 fn changed_bytes() {
     let mut random = Random(9);
     let mut tally = Tally::default();
-    for n in FEW {
+    for n in few_pins() {
         for tree in trees(n, &mut random) {
             let bytes = tree.bytes_of_parts();
             if bytes.is_empty() {
@@ -574,7 +560,7 @@ fn changed_bytes() {
 fn parts_of_random_bytes() {
     let mut random = Random(10);
     let mut tally = Tally::default();
-    for n in FEW {
+    for n in few_pins() {
         for tree in trees(n, &mut random) {
             for ones in [1, 3, 8, 13] {
                 let mut tree = tree.clone();
@@ -597,7 +583,7 @@ fn parts_of_random_bytes() {
 fn other_codes() {
     let mut random = Random(11);
     let mut tally = Tally::default();
-    for n in FEW {
+    for n in few_pins() {
         for tree in trees(n, &mut random) {
             for _ in 0..4 {
                 let mut tree = tree.clone();
@@ -650,7 +636,7 @@ fn every_code_byte() {
 fn parts_cut_short() {
     let mut random = Random(13);
     let mut tally = Tally::default();
-    for n in FEW {
+    for n in few_pins() {
         for tree in trees(n, &mut random) {
             for level in 1..=tree.height() {
                 let part = tree.part(level);
@@ -676,7 +662,7 @@ fn parts_cut_short() {
 fn parts_elsewhere() {
     let mut random = Random(14);
     let mut tally = Tally::default();
-    for n in FEW {
+    for n in few_pins() {
         for tree in trees(n, &mut random) {
             let (height, length) = (tree.height(), tree.s.len());
             for _ in 0..4 {
@@ -684,9 +670,10 @@ fn parts_elsewhere() {
                 let mut tree = tree.clone();
                 let level = 1 + random.below(height);
                 let before = tree.levels.ends[level - 1];
-                let after = match level == height {
-                    true => length,
-                    false => tree.levels.ends[level + 1],
+                let after = if level < height {
+                    tree.levels.ends[level + 1]
+                } else {
+                    length
                 };
                 tree.levels.ends[level] = before + random.below(after - before + 1);
                 check_damaged(&tree, &mut tally, &mut random);
@@ -705,7 +692,7 @@ fn parts_elsewhere() {
 fn wrong_pin_counts() {
     let mut random = Random(15);
     let mut tally = Tally::default();
-    for n in FEW {
+    for n in few_pins() {
         for mut tree in trees(n, &mut random) {
             // Levels past the height will be read, so they need parts: what bytes are left for
             // the first of them, none for the others.

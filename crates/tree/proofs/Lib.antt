@@ -5,3 +5,9 @@ pub mod Stretches
 pub mod NodeFetches
 pub mod Walks
 pub mod Steps
+pub mod Orders
+pub mod Inorder
+pub mod Ranks
+pub mod Contents
+pub mod LevelValues
+pub mod Fills

@@ -12,8 +12,12 @@ pub data Under : ℕ → ℕ → Type 0 where
   in-left : {w u : ℕ} → Under (2 * w) u → Under w u
   in-right : {w u : ℕ} → Under (2 * w + 1) u → Under w u
 
--- every node under node w has its stored value, and every other entry has it too or is unchanged
+-- entry i is unchanged, or is what its node stores
+abbrev pub Correct : List ℕ → ℕ → ℕ → ℕ → Type 0
+Correct xs i was is = (is ≡ was) ⊎ ((i < length xs) × (is ≡ stored xs (suc i)))
+
+-- every node under node w has its stored value, and no entry is wrong
 pub record Filled (xs : List ℕ) (w : ℕ) (before after : List ℕ) : Type 0 where
   pub kept : length after ≡ length before
   pub done : (i : ℕ) → Under w (suc i) → i < length xs → getD after i 0 ≡ stored xs (suc i)
-  pub others : (i : ℕ) → (getD after i 0 ≡ getD before i 0) ⊎ ((i < length xs) × (getD after i 0 ≡ stored xs (suc i)))
+  pub others : (i : ℕ) → Correct xs i (getD before i 0) (getD after i 0)

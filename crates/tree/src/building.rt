@@ -5,7 +5,7 @@ use super::shape::side_of;
 use super::shape::root_place;
 ghost use mathlib.Core.Path.{_≡_};
 ghost use mathlib.Core.List.{_++_};
-ghost use Prim.Native.Nat.{_%_, _^_, _<_, _≤_};
+ghost use Prim.Native.Nat.{_+_, _%_, _^_, _<_, _≤_};
 ghost use lib.Dec.{T};
 ghost use lib.ListN.{length, drop};
 ghost use Rattle.tree.specs.Shape.{stretch};
@@ -26,7 +26,7 @@ fn stored_value(v: usize, above: u32, time: u32) -> u32
 fn fill(values: &mut [u32], times: &[u32], s: Stretch, v: usize, above: u32)
     requires { ⌜ T (ordered (now times)) ⌝ }
     requires { ⌜ (length (now times) ≤ length (now values)) × (length (now times) < 2 ^ 63) × (1 ≤ v) ⌝ }
-    requires { ⌜ (stretch (length (now times)) v ≡ s) × (timeAbove (now times) v ≡ above) ⌝ }
+    requires { ⌜ (stretch (length (now times)) v ≡ s) × (s .start + s .pins ≤ length (now times)) × (timeAbove (now times) v ≡ above) ⌝ }
     ensures { λ r. ⌜ Filled (now (times .entry)) v (now (values .entry)) (now (values .exit)) ⌝ }
 {
     let pins = s.pins;

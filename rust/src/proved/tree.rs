@@ -108,17 +108,18 @@ impl<'a> Tree<'a> {
     pub fn access(&self, i: usize) -> Result<(u32, usize), Refusal> {
         let Levels { pins, codes, ends } = self.levels;
         assert!(i < *pins);
-        // SAFETY: the pointers are a slice's and two arrays'; the requirements are asserted.
+        // SAFETY: the pointers are a slice's and two arrays'; the requirements are asserted,
+        // those of the levels in `new`.
         let answer = unsafe { tree_access(self.s.as_ptr(), self.s.len(), codes, ends, *pins, i) };
-        let (time, nodes) = outcome(answer)?;
-        Ok((time, nodes))
+        outcome(answer)
     }
 
     /// The position and the nodes opened.
     #[inline]
     pub fn search(&self, t: u32) -> Result<(usize, usize), Refusal> {
         let Levels { pins, codes, ends } = self.levels;
-        // SAFETY: the pointers are a slice's and two arrays'; the requirements are asserted.
+        // SAFETY: the pointers are a slice's and two arrays'; the requirements are asserted,
+        // those of the levels in `new`.
         let answer = unsafe { tree_search(self.s.as_ptr(), self.s.len(), codes, ends, *pins, t) };
         let (position, nodes) = outcome(answer)?;
         Ok((position as usize, nodes))

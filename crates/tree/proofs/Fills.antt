@@ -1,0 +1,119 @@
+-- What filling the buffer node by node leaves in it.
+use mathlib.Core.Path.{_≡_, refl, sym, ap, _∙_}
+use mathlib.Core.Logic.{_⊎_, inl, inr, _≢_}
+use mathlib.Core.Bool.{Bool}
+use mathlib.Core.List.{List, [], _∷_, _++_}
+use Prim.Native.Nat.{ℕ, zero, suc, _+_, _-_, _*_, _≤_, _<_}
+use native.Mathlib.Nat.{le-refl}
+use native.Mathlib.Decide.{decLt, ℕ-discrete}
+use native.Mathlib.Omega.{arith}
+use lib.ListN.{length, getD, drop, set, length-set, length-append, length-drop, List·getD-append}
+use lib.Seq.{ext-getD, getD-append-add, getD-drop, getD-set-same, getD-set-other}
+use Rattle.tree.specs.declared.shape.Stretch.{Stretch}
+use Rattle.tree.specs.Shape.{rootPlace, childOf, sideOf, stretch, rank}
+use Rattle.tree.specs.Stored.{timeOf, timeAbove, stored, storedValues}
+use Rattle.tree.specs.Filled.{Under, here, in-left, in-right, Correct, Filled}
+use Rattle.tree.proofs.Stretches.{pins-of-node, no-pins, stretch-child}
+use Rattle.tree.proofs.Walks.{child-bounds, parent-of}
+use Rattle.tree.proofs.Contents.{above-child}
+use Rattle.tree.proofs.LevelValues.{length-stored, getD-stored}
+use Rattle.tree.proofs.Ranks.{under-root, under-out}
+
+module _ (xs : List ℕ) where
+  correct-both : (i a b c : ℕ) → Correct xs i a b → Correct xs i b c → Correct xs i a c
+  correct-both i a b c f (inl e) = elim f [ inl d ↦ inl (e ∙ d) | inr z ↦ inr (z .0, e ∙ z .1) ]
+  correct-both i a b c f (inr z) = inr z
+
+  -- once an entry has its stored value, it keeps it
+  correct-stays : (i a b : ℕ) → Correct xs i a b → a ≡ stored xs (suc i) → b ≡ stored xs (suc i)
+  correct-stays i a b (inl d) e = d ∙ e
+  correct-stays i a b (inr z) e = z .1
+
+  pub filled-none : (v : ℕ) (before : List ℕ) → length xs < v → Filled xs v before before
+  filled-none v before h = record {
+    kept = refl;
+    done = λ i u k. absurd (omega (arith, under-out (length xs) u h));
+    others = λ i. inl refl;
+  }
+
+  -- node v's own entry, then those of its left and of its right subtree
+  pub filled-node : (v : ℕ) (before now left right : List ℕ) → 1 ≤ v → v ≤ length xs → v ≤ length before → now ≡ set before (v - 1) (stored xs v)
+      → Filled xs (2 * v) now left → Filled xs (2 * v + 1) left right → Filled xs v before right
+  filled-node v before now left right one h room w l r = record {
+    kept = r .kept ∙ l .kept ∙ ap length w ∙ length-set before (v - 1) (stored xs v);
+    done = done;
+    others = λ i. correct-both i _ _ _ (own i) (later i);
+  }
+    where
+      own : (i : ℕ) → Correct xs i (getD before i 0) (getD now i 0)
+      own i = elim (ℕ-discrete i (v - 1)) [
+        | yes e ↦
+            let k : suc i ≡ v = omega arith in
+            inr (omega arith, rw (w, e) (getD-set-same before (v - 1) (stored xs v) 0 (omega arith)) ∙ ap (stored xs) (sym k))
+        | no e ↦ inl (ap (λ (l : List ℕ). getD l i 0) w ∙ getD-set-other before (v - 1) i (stored xs v) 0 e)
+      ]
+
+      later : (i : ℕ) → Correct xs i (getD now i 0) (getD right i 0)
+      later i = correct-both i _ _ _ (l .others i) (r .others i)
+
+      done : (i : ℕ) → Under v (suc i) → i < length xs → getD right i 0 ≡ stored xs (suc i)
+      done i (here e) k =
+          let j : i ≡ v - 1 = omega arith in
+          correct-stays i _ _ (later i) (rw (w, j) (getD-set-same before (v - 1) (stored xs v) 0 (omega arith)) ∙ ap (stored xs) e)
+      done i (in-left u) k = correct-stays i _ _ (r .others i) (l .done i u k)
+      done i (in-right u) k = r .done i u k
+
+  -- from the root on: the list's stored values, and what stood after them
+  pub filled-all : (before after : List ℕ) → length xs ≤ length before → Filled xs 1 before after → after ≡ storedValues xs ++ drop (length xs) before
+  filled-all before after room f = ext-getD 0 after (storedValues xs ++ drop (length xs) before) same-length (λ i h. entry i (decLt i (length xs)))
+    where
+      own : length (storedValues xs) ≡ length xs
+      own = length-stored xs (length xs) 1
+
+      same-length : length after ≡ length (storedValues xs ++ drop (length xs) before)
+      same-length = rw (length-append, own, length-drop) (omega (arith, f .kept))
+
+      later : (i : ℕ) → length xs ≤ i → getD before i 0 ≡ getD (storedValues xs ++ drop (length xs) before) i 0
+      later i h =
+          let k : length (storedValues xs) + (i - length xs) ≡ i = rw own (omega arith) in
+          let j : length xs + (i - length xs) ≡ i = omega arith in
+          sym (ap (λ (n : ℕ). getD (storedValues xs ++ drop (length xs) before) n 0) (sym k)
+          ∙ getD-append-add (storedValues xs) (drop (length xs) before) (i - length xs) 0 ∙ getD-drop (length xs) before (i - length xs) 0 ∙ rw j)
+
+      entry : (i : ℕ) → Dec (i < length xs) → getD after i 0 ≡ getD (storedValues xs ++ drop (length xs) before) i 0
+      entry i (yes h) =
+          f .done i (under-root (suc i) (suc i) (le-refl (suc i)) (omega arith)) h
+          ∙ sym (List·getD-append (storedValues xs) (drop (length xs) before) 0 i (rw own h) ∙ getD-stored xs (length xs) 1 i h ∙ ap (stored xs) (omega arith))
+      entry i (no h) = elim (f .others i) [
+        | inl e ↦ e ∙ later i (omega arith)
+        | inr z ↦ absurd (h (z .0))
+      ]
+
+-- ---- one node
+
+module _ (xs : List ℕ) (v : ℕ) (s : Stretch) (one : 1 ≤ v) (e : stretch (length xs) v ≡ s) where
+  pub fill-past : s .pins ≡ 0 → length xs < v
+  fill-past z = elim (decLt (length xs) v) [ yes h ↦ h | no h ↦ absurd (omega (arith, rw e at (pins-of-node (length xs) v one (omega arith)))) ]
+
+  pub fill-node : 1 ≤ s .pins → v ≤ length xs
+  fill-node h = elim (decLt (length xs) v) [ yes k ↦ absurd (omega (arith, rw e at (no-pins (length xs) v k))) | no k ↦ omega arith ]
+
+  pub fill-time : timeOf xs v ≡ getD xs (s .start + rootPlace (s .pins) - 1) 0
+  unfolding timeOf rank
+  fill-time = rw e
+
+  -- the same of its children
+  pub record Below (right : Bool) : Type 0 where
+    pub first : 1 ≤ childOf right v
+    pub under : stretch (length xs) (childOf right v) ≡ sideOf right s
+    pub above : timeAbove xs (childOf right v) ≡ timeOf xs v
+
+  pub fill-below : (right : Bool) → Below right
+  fill-below right =
+      let b = child-bounds right v in
+      let k : 2 ≤ childOf right v = omega arith in
+      record {
+        first = omega arith;
+        under = stretch-child (length xs) right v one ∙ rw e;
+        above = above-child xs (childOf right v) k ∙ rw (parent-of right v);
+      }
