@@ -11,3 +11,5 @@ pub mod Ranks
 pub mod Contents
 pub mod LevelValues
 pub mod Fills
+pub mod Paths
+pub mod Promises

@@ -43,7 +43,7 @@ under-out n (here e) h = omega arith
 under-out n (in-left x) h = under-out n x (omega arith)
 under-out n (in-right x) h = under-out n x (omega arith)
 
-under-rank : {n w a b u : ℕ} → Tree n w a b → Under w u → u ≤ n → (a ≤ rank n u) × (rank n u < b)
+pub under-rank : {n w a b u : ℕ} → Tree n w a b → Under w u → u ≤ n → (a ≤ rank n u) × (rank n u < b)
 under-rank {n} (out h e) x k = absurd (omega (arith, under-out n x h))
 under-rank {n} (node h k l r) (here e) q = let z = ap (rank n) e in omega (arith, tree-le l, tree-le r)
 under-rank {n} (node h k l r) (in-left x) q = omega (arith, under-rank l x q, tree-le r)

@@ -3,6 +3,7 @@ use mathlib.Core.Path.{_≡_, refl, ap, _∙_}
 use mathlib.Core.Bool.{Bool, true, false, cond}
 use mathlib.Core.List.{List, [], _∷_}
 use Prim.Native.Nat.{ℕ, zero, suc, _+_, _-_, _*_, _/_, _^_, _≤_, _<_}
+use native.Mathlib.Decide.{decLt}
 use native.Mathlib.Omega.{arith}
 use lib.Dec.{ltb}
 use lib.ListN.{length}
@@ -67,3 +68,36 @@ met-fine time answer v t vs e = rw e
 pub met-refused : (time : ℕ → Time) (answer : Answer) (v r u : ℕ) (vs : List ℕ) → time v ≡ refused r u → met time answer (v ∷ vs) ≡ stopped r u
 unfolding met
 met-refused time answer v r u vs e = rw e
+
+-- ---- walks that agree at the nodes
+
+module _ (n : ℕ) (stop past past′ : ℕ → Bool) (same : (v : ℕ) → 1 ≤ v → v ≤ n → past v ≡ past′ v) where
+  walkIn-same : (f v : ℕ) → 1 ≤ v → walkIn f n stop past v ≡ walkIn f n stop past′ v
+  unfolding walkIn
+  walkIn-same zero v h = refl
+  walkIn-same (suc f) v h = elim (decLt n v) [
+    | yes k ↦ rw (lt-ltb n v k)
+    | no k ↦ rw (same v h (omega arith)) (ap (λ (l : List ℕ). cond (ltb n v) [] (v ∷ cond (stop v) [] l)) (walkIn-same f (childOf (past′ v) v) (omega (arith, child-bounds (past′ v) v))))
+  ]
+
+  pub walk-same : (v : ℕ) → 1 ≤ v → walk n stop past v ≡ walk n stop past′ v
+  unfolding walk
+  walk-same v h = walkIn-same (suc (height n) - height v) v h
+
+-- where no node's time is refused, no walk is
+module _ (n : ℕ) (time : ℕ → Time) (x : ℕ → ℕ) (fine : (v : ℕ) → 1 ≤ v → v ≤ n → time v ≡ at (x v)) (answer : Answer) (stop past : ℕ → Bool) where
+  metIn-none : (f v : ℕ) → 1 ≤ v → met time answer (walkIn f n stop past v) ≡ answer
+  unfolding walkIn met
+  metIn-none zero v h = refl
+  metIn-none (suc f) v h = elim (decLt n v) [
+    | yes k ↦ rw (lt-ltb n v k)
+    | no k ↦ rw (le-ltb n v (omega arith), fine v h (omega arith)) (ended (stop v) (walkIn f n stop past (childOf (past v) v)) (metIn-none f (childOf (past v) v) (omega (arith, child-bounds (past v) v))))
+  ]
+    where
+      ended : (b : Bool) (later : List ℕ) → met time answer later ≡ answer → met time answer (cond b [] later) ≡ answer
+      ended true later e = refl
+      ended false later e = e
+
+  pub met-none : (v : ℕ) → 1 ≤ v → met time answer (walk n stop past v) ≡ answer
+  unfolding walk
+  met-none v h = metIn-none (suc (height n) - height v) v h

@@ -7,4 +7,5 @@ pub mod Levels
 pub mod Times
 pub mod Walks
 pub mod Marked
+pub mod Promises
 pub mod Filled

@@ -1,7 +1,7 @@
 -- Walks from the root down: the nodes that they open, and what access and search answer.
 use mathlib.Core.Bool.{Bool, true, false, cond}
 use mathlib.Core.List.{List, [], _∷_}
-use Prim.Native.Nat.{ℕ, zero, suc, _-_}
+use Prim.Native.Nat.{ℕ, zero, suc, _-_, _/_}
 use lib.Dec.{eqb, ltb}
 use lib.ListN.{length}
 use Rattle.tree.specs.declared.walking.Accessed.{Accessed}
@@ -82,3 +82,13 @@ searched (search.Refused r) = stopped (numberOf r) (nodeOf r)
 -- to the right child, until that child is not among the nodes.
 unfoldable pub path : List ℕ → ℕ → List ℕ
 path xs t = walk (length xs) never (λ v. ltb (timeOf xs v) t) 1
+
+-- ---- from the root to a node
+
+unfoldable pub fromRootIn : ℕ → ℕ → List ℕ → List ℕ
+fromRootIn zero v below = below
+fromRootIn (suc f) v below = fromRootIn f (v / 2) (v ∷ below)
+
+-- the nodes from the root to node v, one for each binary digit of v
+abbrev pub fromRoot : ℕ → List ℕ
+fromRoot v = fromRootIn (height v) v []

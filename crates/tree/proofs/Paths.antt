@@ -1,0 +1,138 @@
+-- The nodes that access and search open in the tree of a list, and where a search ends.
+use mathlib.Core.Path.{_≡_, refl, sym, ap, ap₂, _∙_}
+use mathlib.Core.Bool.{Bool, true, false, cond}
+use mathlib.Core.List.{List, [], _∷_, _++_, append-nil}
+use Prim.Native.Nat.{ℕ, zero, suc, _+_, _*_, _/_, _≤_, _<_}
+use native.Mathlib.Nat.{le-refl}
+use native.Mathlib.Decide.{decLt}
+use native.Mathlib.Omega.{arith}
+use lib.Dec.{T, eqb, ltb}
+use lib.ListN.{length, getD}
+use borrow.Author.Tests.{lt-ltb, le-ltb, eq-eqb, ne-eqb}
+use Rattle.tree.specs.Shape.{height, childOf, rank}
+use Rattle.tree.specs.Lists.{ordered, smaller}
+use Rattle.tree.specs.Stored.{timeOf}
+use Rattle.tree.specs.Times.{Time, at, known}
+use Rattle.tree.specs.Walks.{walk, found, toward, lastOf, accessAnswer, never, lastLeft, searchAnswer, path, fromRootIn, fromRoot}
+use Rattle.tree.specs.Filled.{Under, here, in-left, in-right}
+use Rattle.tree.proofs.Heights.{height-zero, height-step}
+use Rattle.tree.proofs.Orders.{smaller-le, smaller-first}
+use Rattle.tree.proofs.Walks.{walk-out, walk-on, walk-same, met-none}
+use Rattle.tree.proofs.Inorder.{Tree, out, node, tree}
+use Rattle.tree.proofs.Ranks.{under-root, under-rank, under-out, rank-lt, rank-found}
+
+-- ---- access
+
+-- the nodes from w down to a node under it
+steps : {w v : ℕ} → Under w v → List ℕ
+steps {w} (here e) = w ∷ []
+steps {w} (in-left x) = w ∷ steps x
+steps {w} (in-right x) = w ∷ steps x
+
+toward-under : (n v : ℕ) {w a b : ℕ} → v ≤ n → Tree n w a b → (x : Under w v)
+    → walk n (λ u. eqb (rank n u) (rank n v)) (λ u. ltb (rank n u) (rank n v)) w ≡ steps x
+unfolding steps childOf
+toward-under n v k (out h e) x = absurd (omega (arith, under-out n x h))
+toward-under n v {w} k (node h l a b) (here e) =
+    walk-on n (λ u. eqb (rank n u) (rank n v)) (λ u. ltb (rank n u) (rank n v)) w h l ∙ rw (eq-eqb (rank n w) (rank n v) (ap (rank n) e))
+toward-under n v {w} k (node h l a b) (in-left x) =
+    let r = under-rank a x k in
+    walk-on n (λ u. eqb (rank n u) (rank n v)) (λ u. ltb (rank n u) (rank n v)) w h l
+    ∙ rw (ne-eqb (rank n w) (rank n v) (omega arith), le-ltb (rank n w) (rank n v) (omega arith)) (ap (λ (us : List ℕ). w ∷ us) (toward-under n v k a x))
+toward-under n v {w} k (node h l a b) (in-right x) =
+    let r = under-rank b x k in
+    walk-on n (λ u. eqb (rank n u) (rank n v)) (λ u. ltb (rank n u) (rank n v)) w h l
+    ∙ rw (ne-eqb (rank n w) (rank n v) (omega arith), lt-ltb (rank n w) (rank n v) (omega arith)) (ap (λ (us : List ℕ). w ∷ us) (toward-under n v k b x))
+
+-- one node on each level
+fromRoot-one : (v : ℕ) (below : List ℕ) → 1 ≤ v → fromRootIn (height v) v below ≡ fromRootIn (height (v / 2)) (v / 2) (v ∷ below)
+unfolding fromRootIn
+fromRoot-one v below h = rw (height-step v h)
+
+fromRoot-under : {w v : ℕ} (x : Under w v) (below : List ℕ) → 1 ≤ w
+    → fromRootIn (height v) v below ≡ fromRootIn (height (w / 2)) (w / 2) (steps x ++ below)
+unfolding steps
+fromRoot-under {w} {v} (here e) below h = rw (← e) (fromRoot-one w below h)
+fromRoot-under {w} {v} (in-left x) below h =
+    let e : 2 * w / 2 ≡ w = omega arith in
+    fromRoot-under x below (omega arith) ∙ rw e (fromRoot-one w (steps x ++ below) h)
+fromRoot-under {w} {v} (in-right x) below h =
+    let e : (2 * w + 1) / 2 ≡ w = omega arith in
+    fromRoot-under x below (omega arith) ∙ rw e (fromRoot-one w (steps x ++ below) h)
+
+pub toward-rank : (n v : ℕ) → 1 ≤ v → v ≤ n → toward n (rank n v) ≡ fromRoot v
+unfolding toward fromRootIn
+toward-rank n v h k =
+    let x = under-root v v (le-refl v) h in
+    let e : 1 / 2 ≡ 0 = omega arith in
+    toward-under n v k (tree n) x ∙ sym (fromRoot-under x [] (le-refl 1) ∙ rw (e, height-zero) (append-nil (steps x)))
+
+fromRootIn-length : (f v : ℕ) (below : List ℕ) → length (fromRootIn f v below) ≡ f + length below
+unfolding fromRootIn
+fromRootIn-length zero v below = omega arith
+fromRootIn-length (suc f) v below = fromRootIn-length f (v / 2) (v ∷ below) ∙ omega arith
+
+pub fromRoot-length : (v : ℕ) → length (fromRoot v) ≡ height v
+fromRoot-length v = fromRootIn-length (height v) v [] ∙ omega arith
+
+lastOf-fromRoot : (f v b : ℕ) (below : List ℕ) → lastOf 0 (fromRootIn f v (b ∷ below)) ≡ lastOf 0 (b ∷ below)
+unfolding fromRootIn lastOf
+lastOf-fromRoot zero v b below = refl
+lastOf-fromRoot (suc f) v b below = lastOf-fromRoot f (v / 2) v (b ∷ below)
+
+last-fromRoot : (v : ℕ) → 1 ≤ v → lastOf 0 (fromRoot v) ≡ v
+unfolding lastOf
+last-fromRoot v h = ap (lastOf 0) (fromRoot-one v [] h) ∙ lastOf-fromRoot (height (v / 2)) (v / 2) v []
+
+-- ---- search
+
+-- the test of a walk cuts the ranks at p: it is passed by the nodes of the ranks below p and by no others
+abbrev Cuts : ℕ → (ℕ → Bool) → ℕ → Type 0
+Cuts n past p = (v : ℕ) → 1 ≤ v → v ≤ n → past v ≡ ltb (rank n v) p
+
+left-step : (n : ℕ) (past : ℕ → Bool) (d v : ℕ) (right : Bool) → 1 ≤ v → v ≤ n → past v ≡ right
+    → lastLeft n past d (walk n never past v) ≡ lastLeft n past (cond right d (rank n v)) (walk n never past (childOf right v))
+unfolding lastLeft
+left-step n past d v right h k e =
+    rw (walk-on n never past v h k) (ap (λ (b : Bool). lastLeft n past (cond b d (rank n v)) (walk n never past (childOf b v))) e)
+
+-- a walk through the stretch from a to b, with b as the last rank left by its left side, ends at the cut
+search-under : (n : ℕ) (past : ℕ → Bool) (p : ℕ) → Cuts n past p → {v a b : ℕ} → Tree n v a b → a ≤ p → p ≤ b
+    → lastLeft n past b (walk n never past v) ≡ p
+unfolding lastLeft childOf
+search-under n past p c {v} (out h e) lo hi = rw (walk-out n never past v h) (omega arith)
+search-under n past p c {v} {b = b} (node h k l r) lo hi = elim (decLt (rank n v) p) [
+  | yes y ↦ left-step n past b v true h k (c v h k ∙ lt-ltb (rank n v) p y) ∙ search-under n past p c r y hi
+  | no y ↦ left-step n past b v false h k (c v h k ∙ le-ltb (rank n v) p (omega arith)) ∙ search-under n past p c l lo (omega arith)
+]
+
+cuts-below : (xs : List ℕ) (t : ℕ) → T (ordered xs) → Cuts (length xs) (λ v. ltb (timeOf xs v) t) (smaller t xs)
+unfolding timeOf
+cuts-below xs t o v h k = smaller-first t xs o (rank (length xs) v) (rank-lt (length xs) v h k)
+
+-- ---- the answers, where no node's time is refused
+
+module _ (xs : List ℕ) (time : ℕ → Time) (fine : (v : ℕ) → 1 ≤ v → v ≤ length xs → time v ≡ at (timeOf xs v)) where
+  -- the last node on the way to rank i is the one of that rank
+  pub access-answer : (i : ℕ) → i < length xs → accessAnswer (length xs) time i ≡ found (getD xs i 0) (length (toward (length xs) i))
+  unfolding accessAnswer toward timeOf
+  access-answer i h =
+      let n = length xs in
+      let (v, one, k, r) = rank-found (tree n) i (omega arith) h in
+      let last : lastOf 0 (toward n i) ≡ v = ap (λ (j : ℕ). lastOf 0 (toward n j)) (sym r) ∙ ap (lastOf 0) (toward-rank n v one k) ∙ last-fromRoot v one in
+      let x : known (time (lastOf 0 (toward n i))) ≡ getD xs i 0 = rw last (ap known (fine v one k) ∙ ap (λ (j : ℕ). getD xs j 0) r) in
+      met-none n time (timeOf xs) fine (found (known (time (lastOf 0 (toward n i)))) (length (toward n i))) (λ u. eqb (rank n u) i) (λ u. ltb (rank n u) i) 1 (le-refl 1)
+      ∙ ap (λ (y : ℕ). found y (length (toward n i))) x
+
+  -- the position is the number of smaller times
+  pub search-answer : T (ordered xs) → (t : ℕ) → searchAnswer (length xs) time t ≡ found (smaller t xs) (length (path xs t))
+  unfolding searchAnswer path
+  search-answer o t =
+      let n = length xs in
+      let past : ℕ → Bool = λ v. ltb (known (time v)) t in
+      let same : (v : ℕ) → 1 ≤ v → v ≤ n → past v ≡ ltb (timeOf xs v) t = λ v h k. ap (λ (x : Time). ltb (known x) t) (fine v h k) in
+      let nodes = walk n never past 1 in
+      let p : lastLeft n past n nodes ≡ smaller t xs =
+      search-under n past (smaller t xs) (λ v h k. same v h k ∙ cuts-below xs t o v h k) (tree n) (omega arith) (smaller-le t xs) in
+      met-none n time (timeOf xs) fine (found (lastLeft n past n nodes) (length nodes)) never past 1 (le-refl 1)
+      ∙ ap₂ found p (ap length (walk-same n never past (λ v. ltb (timeOf xs v) t) same 1 (le-refl 1)))

@@ -1,0 +1,85 @@
+-- The promises of specs/Promises.
+use mathlib.Core.Path.{_≡_, refl, sym, ap, _∙_}
+use mathlib.Core.Bool.{Bool, cond}
+use mathlib.Core.List.{List, [], _∷_}
+use Prim.Native.Nat.{ℕ, zero, suc, _-_, _^_, _≤_, _<_, min}
+use native.Mathlib.Nat.{le-refl}
+use native.Mathlib.Omega.{arith}
+use lib.Dec.{T, eqb, ltb}
+use lib.ListN.{length, getD}
+use lib.Pow.{pow-pos}
+use Rattle.tree.specs.declared.fetching.Levels.{Levels}
+use Rattle.tree.specs.Shape.{height, rank}
+use Rattle.tree.specs.Stored.{timeOf}
+use Rattle.tree.specs.Levels.{firstOf, levelOf, fetchedAt}
+use Rattle.tree.specs.Times.{Time, at, known, nodeTime}
+use Rattle.tree.specs.Walks.{walk, found, met, toward, lastOf, accessAnswer, never, lastLeft, searchAnswer, path}
+use Rattle.tree.specs.Promises.{HeightLeast, Shape, Held, Contents, SearchFinds, AccessOpens}
+use Rattle.tree.proofs.Heights.{digits, height-bound, height-le, height-is}
+use Rattle.tree.proofs.Stretches.{stretch-root, stretch-left, stretch-right, node-iff}
+use Rattle.tree.proofs.Inorder.{tree}
+use Rattle.tree.proofs.Ranks.{rank-lt, rank-found, rank-once}
+use Rattle.tree.proofs.Walks.{walk-length, walk-same, met-none}
+use Rattle.tree.proofs.Paths.{toward-rank, fromRoot-length, access-answer, search-answer}
+use Rattle.tree.proofs.Contents.{times-back}
+use Rattle.tree.proofs.LevelValues.{fetched-stored}
+
+pub height-least : HeightLeast
+height-least = record {
+  enough = λ n. omega (arith, height-bound n);
+  least = λ n h k. height-le n h (omega (arith, pow-pos h));
+}
+
+level-from : (n v l : ℕ) → 1 ≤ v → v ≤ n → levelOf v ≡ l → (firstOf l ≤ v) × (v ≤ min n (2 ^ l - 1))
+level-from n v l h k e =
+    let d = digits v h in
+    let t : l ≡ suc (d .top) = sym e ∙ d .is in
+    let f : suc (d .top) - 1 ≡ d .top = omega arith in
+    rw t (rw f (d .least), omega (arith, d .below))
+
+level-to : (n v l : ℕ) → 1 ≤ v → (firstOf l ≤ v) × (v ≤ min n (2 ^ l - 1)) → levelOf v ≡ l
+level-to n v zero h b = absurd (omega arith)
+level-to n v (suc l) h b =
+    let f : suc l - 1 ≡ l = omega arith in
+    let lo : 2 ^ l ≤ v = rw f at (b .0) in
+    height-is l v lo (omega (arith, b .1, pow-pos (suc l)))
+
+pub shape : (n : ℕ) → Shape n
+shape n = record {
+  nodes = node-iff n;
+  root = stretch-root n;
+  left = stretch-left n;
+  right = stretch-right n;
+  ranks = rank-lt n;
+  each = λ i h. rank-found (tree n) i (omega arith) h;
+  once = rank-once n;
+  level = λ v. sym (fromRoot-length v);
+  levels = λ v l h k. (level-from n v l h k, level-to n v l h);
+  paths = λ stop past v h. walk-length n stop past v h;
+}
+
+-- ---- the tree of a list
+
+module _ (levels : Levels) (s xs : List ℕ) (held : Held levels s xs) where
+  node-times : (v : ℕ) → 1 ≤ v → v ≤ length xs → nodeTime (fetchedAt levels s) v ≡ at (timeOf xs v)
+  node-times = times-back xs (held .in-order) (held .times) (fetchedAt levels s) (fetched-stored levels s xs (held .stores))
+
+pub contents : Contents
+contents = record {
+  node = node-times;
+  access = λ levels s xs held i h.
+      ap (λ (n : ℕ). accessAnswer n (nodeTime (fetchedAt levels s)) i) (held .stores .pins-are)
+      ∙ access-answer xs (nodeTime (fetchedAt levels s)) (node-times levels s xs held) i h;
+}
+
+pub search-finds : SearchFinds
+search-finds levels s xs held t =
+    ap (λ (n : ℕ). searchAnswer n (nodeTime (fetchedAt levels s)) t) (held .stores .pins-are)
+    ∙ search-answer xs (nodeTime (fetchedAt levels s)) (node-times levels s xs held) (held .in-order) t
+
+pub access-opens : AccessOpens
+unfolding toward
+access-opens = record {
+  nodes = toward-rank;
+  few = λ n i. walk-length n (λ v. eqb (rank n v) i) (λ v. ltb (rank n v) i) 1 (le-refl 1);
+}

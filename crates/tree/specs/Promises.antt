@@ -1,0 +1,63 @@
+-- What is shown of the tree besides each function's contract. proofs/Promises proves each, as `height-least`, `shape`, `contents`,
+-- `search-finds` and `access-opens`.
+use mathlib.Core.Path.{_≡_}
+use mathlib.Core.Logic.{_≢_, _↔_}
+use mathlib.Core.Bool.{Bool, true, false}
+use mathlib.Core.List.{List}
+use Prim.Native.Nat.{ℕ, _-_, _*_, _+_, _^_, _≤_, _<_, min}
+use lib.Dec.{T}
+use lib.ListN.{length, getD}
+use Rattle.codes.specs.Codes.{Within}
+use Rattle.tree.specs.declared.fetching.Levels.{Levels}
+use Rattle.tree.specs.Shape.{height, sideOf, stretch, rank}
+use Rattle.tree.specs.Lists.{ordered, smaller}
+use Rattle.tree.specs.Stored.{timeOf}
+use Rattle.tree.specs.Levels.{firstOf, levelOf, fetchedAt, Stores}
+use Rattle.tree.specs.Times.{at, nodeTime}
+use Rattle.tree.specs.Walks.{walk, found, toward, accessAnswer, searchAnswer, path, fromRoot}
+
+-- The height is the least number with 2 ^ h - 1 ≥ n.
+pub record HeightLeast : Type 0 where
+  pub enough : (n : ℕ) → n ≤ 2 ^ height n - 1
+  pub least : (n h : ℕ) → n ≤ 2 ^ h - 1 → height n ≤ h
+
+-- 1. The shape of the tree of n pins.
+pub record Shape (n : ℕ) : Type 0 where
+  -- node v is among 1 to n exactly when its stretch is not empty
+  pub nodes : (v : ℕ) → 1 ≤ v → (v ≤ n) ↔ (stretch n v .pins ≢ 0)
+  -- under node 1 stands the whole list; the children of v are 2v and 2v + 1, with what precedes and what follows its root
+  pub root : stretch n 1 ≡ record { start = 0; pins = n }
+  pub left : (v : ℕ) → 1 ≤ v → stretch n (2 * v) ≡ sideOf false (stretch n v)
+  pub right : (v : ℕ) → 1 ≤ v → stretch n (2 * v + 1) ≡ sideOf true (stretch n v)
+  -- the ranks of 1 to n are 0 to n - 1, each once
+  pub ranks : (v : ℕ) → 1 ≤ v → v ≤ n → rank n v < n
+  pub each : (i : ℕ) → i < n → (v : ℕ) × (1 ≤ v) × (v ≤ n) × (rank n v ≡ i)
+  pub once : (u v : ℕ) → 1 ≤ u → u ≤ n → 1 ≤ v → v ≤ n → rank n u ≡ rank n v → u ≡ v
+  -- a node's level is the number of nodes from the root to it, and level L holds nodes 2 ^ (L - 1) to min(n, 2 ^ L - 1)
+  pub level : (v : ℕ) → levelOf v ≡ length (fromRoot v)
+  pub levels : (v l : ℕ) → 1 ≤ v → v ≤ n → (levelOf v ≡ l) ↔ ((firstOf l ≤ v) × (v ≤ min n (2 ^ l - 1)))
+  -- no walk down, whatever its tests, has more nodes than the height
+  pub paths : (stop past : ℕ → Bool) (v : ℕ) → 1 ≤ v → length (walk n stop past v) ≤ height n
+
+-- An ordered list of 32-bit times, and the levels of a strip that hold what its tree stores, each in any code that can hold it.
+pub record Held (levels : Levels) (s xs : List ℕ) : Type 0 where
+  pub in-order : T (ordered xs)
+  pub times : Within 32 xs
+  pub stores : Stores levels s xs
+
+-- 2. Going down, each node has the list's time at its rank, and access at i gives time i. Nothing is refused.
+pub record Contents : Type 0 where
+  pub node : (levels : Levels) (s xs : List ℕ) → Held levels s xs → (v : ℕ) → 1 ≤ v → v ≤ length xs
+      → nodeTime (fetchedAt levels s) v ≡ at (timeOf xs v)
+  pub access : (levels : Levels) (s xs : List ℕ) → Held levels s xs → (i : ℕ) → i < length xs
+      → accessAnswer (levels .pins) (nodeTime (fetchedAt levels s)) i ≡ found (getD xs i 0) (length (toward (length xs) i))
+
+-- 3. A search gives the number of times smaller than its target, so the first pin of a chord, and opens its path, to the end.
+abbrev pub SearchFinds : Type 0
+SearchFinds = (levels : Levels) (s xs : List ℕ) → Held levels s xs → (t : ℕ)
+    → searchAnswer (levels .pins) (nodeTime (fetchedAt levels s)) t ≡ found (smaller t xs) (length (path xs t))
+
+-- 4. An access at i opens the nodes from the root to the one of rank i, at most the height.
+pub record AccessOpens : Type 0 where
+  pub nodes : (n v : ℕ) → 1 ≤ v → v ≤ n → toward n (rank n v) ≡ fromRoot v
+  pub few : (n i : ℕ) → length (toward n i) ≤ height n
