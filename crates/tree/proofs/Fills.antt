@@ -68,7 +68,7 @@ module _ (xs : List ℕ) where
   filled-all before after room f = ext-getD 0 after (storedValues xs ++ drop (length xs) before) same-length (λ i h. entry i (decLt i (length xs)))
     where
       own : length (storedValues xs) ≡ length xs
-      own = length-stored xs (length xs) 1
+      own = length-stored xs
 
       same-length : length after ≡ length (storedValues xs ++ drop (length xs) before)
       same-length = rw (length-append, own, length-drop) (omega (arith, f .kept))
@@ -83,7 +83,7 @@ module _ (xs : List ℕ) where
       entry : (i : ℕ) → Dec (i < length xs) → getD after i 0 ≡ getD (storedValues xs ++ drop (length xs) before) i 0
       entry i (yes h) =
           f .done i (under-root (suc i) (suc i) (le-refl (suc i)) (omega arith)) h
-          ∙ sym (List·getD-append (storedValues xs) (drop (length xs) before) 0 i (rw own h) ∙ getD-stored xs (length xs) 1 i h ∙ ap (stored xs) (omega arith))
+          ∙ sym (List·getD-append (storedValues xs) (drop (length xs) before) 0 i (rw own h) ∙ getD-stored xs i h)
       entry i (no h) = elim (f .others i) [
         | inl e ↦ e ∙ later i (omega arith)
         | inr z ↦ absurd (h (z .0))

@@ -7,7 +7,7 @@ use Rattle.codes.specs.Codes.{kindOf, part, Holds}
 use Rattle.codes.specs.Fetch.{Fetched, fetched}
 use Rattle.tree.specs.declared.fetching.Levels.{Levels}
 use Rattle.tree.specs.Shape.{height}
-use Rattle.tree.specs.Stored.{storedFrom}
+use Rattle.tree.specs.Stored.{storedValues}
 
 -- level L, from 1, holds nodes 2 ^ (L - 1) to min(n, 2 ^ L - 1)
 abbrev pub firstOf : ℕ → ℕ
@@ -40,12 +40,12 @@ pub record Fits (at : Levels) (s : List ℕ) : Type 0 where
   pub inside : (l : ℕ) → l < height (at .pins) → getD (at .ends) (l + 1) 0 ≤ length s
   pub short : (l : ℕ) → l < height (at .pins) → getD (at .ends) (l + 1) 0 - getD (at .ends) l 0 < 2 ^ 32
 
--- the values that a list's tree stores on level L
+-- of the values in node order, those on level L
 abbrev pub levelValues : List ℕ → ℕ → List ℕ
-levelValues xs l = storedFrom xs (countOf (length xs) l) (firstOf l)
+levelValues values l = take (countOf (length values) l) (drop (firstOf l - 1) values)
 
 -- each level holds what the list's tree stores on it, in some code that can hold it
 pub record Stores (at : Levels) (s : List ℕ) (xs : List ℕ) : Type 0 where
   pub pins-are : at .pins ≡ length xs
-  pub holds : (l : ℕ) → 1 ≤ l → l ≤ height (length xs) → Holds (kindOf (codeOf at l)) (levelValues xs l)
-  pub parts-are : (l : ℕ) → 1 ≤ l → l ≤ height (length xs) → partOf at s l ≡ part (codeOf at l) (levelValues xs l)
+  pub holds : (l : ℕ) → 1 ≤ l → l ≤ height (length xs) → Holds (kindOf (codeOf at l)) (levelValues (storedValues xs) l)
+  pub parts-are : (l : ℕ) → 1 ≤ l → l ≤ height (length xs) → partOf at s l ≡ part (codeOf at l) (levelValues (storedValues xs) l)
