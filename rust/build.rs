@@ -1,7 +1,6 @@
 use std::env;
 
-/// The proved library's archives. The upper layer comes first: where it holds the lower
-/// one's functions too, those are taken and the lower archive's are not.
+/// The proved library's archives.
 const LIBRARIES: [&str; 2] = ["tree_c", "codes_c"];
 
 fn main() {

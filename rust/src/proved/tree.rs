@@ -15,27 +15,32 @@ extern "C" {
     /// times that do not fall, and no fewer entries in `values` than times.
     fn tree_construct(values: *mut u32, values_len: usize, times: *const u32, times_len: usize);
 
-    /// The time at position i plus 2^32 times the nodes opened; where refusal r met node u,
-    /// r times 2^40 plus u. Requires a height of at most 16, for each level of it a part
-    /// that lies in `s` and has fewer than 2^32 bytes, and i < pins.
+    /// Writes three numbers: 0, the time at position i and the nodes opened; or the number
+    /// of a refusal, the node that it carries and 0. Requires three entries of `answer`, a
+    /// height of at most 16, for each level of it a part that lies in `s` and has fewer than
+    /// 2^32 bytes, and i < pins.
     fn tree_access(
+        answer: *mut usize,
+        answer_len: usize,
         s: *const u8,
         s_len: usize,
         codes: *const [u8; HEIGHT],
         ends: *const [usize; HEIGHT + 1],
         pins: usize,
         i: usize,
-    ) -> u64;
+    );
 
     /// As `tree_access`, with the position for the time. Requires the same of the levels.
     fn tree_search(
+        answer: *mut usize,
+        answer_len: usize,
         s: *const u8,
         s_len: usize,
         codes: *const [u8; HEIGHT],
         ends: *const [usize; HEIGHT + 1],
         pins: usize,
-        t: u32,
-    ) -> u64;
+        target: u32,
+    );
 }
 
 #[inline]
@@ -108,32 +113,55 @@ impl<'a> Tree<'a> {
     pub fn access(&self, i: usize) -> Result<(u32, usize), Refusal> {
         let Levels { pins, codes, ends } = self.levels;
         assert!(i < *pins);
-        // SAFETY: the pointers are a slice's and two arrays'; the requirements are asserted,
+        let (mut answer, s) = ([0; 3], self.s);
+        // SAFETY: the pointers are slices' and two arrays'; the requirements are asserted,
         // those of the levels in `new`.
-        let answer = unsafe { tree_access(self.s.as_ptr(), self.s.len(), codes, ends, *pins, i) };
-        outcome(answer)
+        unsafe {
+            tree_access(
+                answer.as_mut_ptr(),
+                3,
+                s.as_ptr(),
+                s.len(),
+                codes,
+                ends,
+                *pins,
+                i,
+            );
+        }
+        let (time, nodes) = outcome(answer)?;
+        Ok((u32::try_from(time).expect("a time has 32 bits"), nodes))
     }
 
     /// The position and the nodes opened.
     #[inline]
-    pub fn search(&self, t: u32) -> Result<(usize, usize), Refusal> {
+    pub fn search(&self, target: u32) -> Result<(usize, usize), Refusal> {
         let Levels { pins, codes, ends } = self.levels;
-        // SAFETY: the pointers are a slice's and two arrays'; the requirements are asserted,
+        let (mut answer, s) = ([0; 3], self.s);
+        // SAFETY: the pointers are slices' and two arrays'; the requirements are asserted,
         // those of the levels in `new`.
-        let answer = unsafe { tree_search(self.s.as_ptr(), self.s.len(), codes, ends, *pins, t) };
-        let (position, nodes) = outcome(answer)?;
-        Ok((position as usize, nodes))
+        unsafe {
+            tree_search(
+                answer.as_mut_ptr(),
+                3,
+                s.as_ptr(),
+                s.len(),
+                codes,
+                ends,
+                *pins,
+                target,
+            );
+        }
+        outcome(answer)
     }
 }
 
-/// The answer and the nodes opened, or the refusal, out of the one number for them.
+/// The answer and the nodes opened, or the refusal, out of the three numbers for them.
 #[inline]
-fn outcome(answer: u64) -> Result<(u32, usize), Refusal> {
-    let node = (answer % (1 << 40)) as usize;
-    match answer >> 40 {
-        0 => Ok((answer as u32, (answer >> 32) as usize)),
-        9 => Err(Refusal::Fetch(node)),
-        10 => Err(Refusal::Time(node)),
-        _ => panic!("neither an answer nor refusal 9 or 10: {answer}"),
+fn outcome(answer: [usize; 3]) -> Result<(usize, usize), Refusal> {
+    match answer {
+        [0, answer, nodes] => Ok((answer, nodes)),
+        [9, node, 0] => Err(Refusal::Fetch(node)),
+        [10, node, 0] => Err(Refusal::Time(node)),
+        _ => panic!("neither an answer nor refusal 9 or 10: {answer:?}"),
     }
 }
