@@ -1,20 +1,17 @@
 -- What filling the buffer node by node leaves in it.
 use mathlib.Core.Path.{_≡_, refl, sym, ap, _∙_}
 use mathlib.Core.Logic.{_⊎_, inl, inr, _≢_}
-use mathlib.Core.Bool.{Bool}
 use mathlib.Core.List.{List, [], _∷_, _++_}
-use Prim.Native.Nat.{ℕ, zero, suc, _+_, _-_, _*_, _≤_, _<_}
+use Prim.Native.Nat.{ℕ, zero, suc, _+_, _-_, _*_, _/_, _≤_, _<_}
 use native.Mathlib.Nat.{le-refl}
 use native.Mathlib.Decide.{decLt, ℕ-discrete}
 use native.Mathlib.Omega.{arith}
 use lib.ListN.{length, getD, drop, set, length-set, length-append, length-drop, List·getD-append}
 use lib.Seq.{ext-getD, getD-append-add, getD-drop, getD-set-same, getD-set-other}
-use Rattle.tree.specs.declared.shape.Stretch.{Stretch}
-use Rattle.tree.specs.Shape.{rootPlace, childOf, sideOf, stretch, rank}
+use Rattle.tree.specs.Shape.{rootPlace, StretchIs}
 use Rattle.tree.specs.Stored.{timeOf, timeAbove, stored, storedValues}
 use Rattle.tree.specs.Filled.{Under, here, in-left, in-right, Correct, Filled}
-use Rattle.tree.proofs.Stretches.{pins-of-node, no-pins, stretch-child}
-use Rattle.tree.proofs.Walks.{child-bounds, parent-of}
+use Rattle.tree.proofs.Stretches.{pins-of-node, no-pins, rank-is}
 use Rattle.tree.proofs.Contents.{above-child}
 use Rattle.tree.proofs.LevelValues.{length-stored, getD-stored}
 use Rattle.tree.proofs.Ranks.{under-root, under-out}
@@ -91,29 +88,19 @@ module _ (xs : List ℕ) where
 
 -- ---- one node
 
-module _ (xs : List ℕ) (v : ℕ) (s : Stretch) (one : 1 ≤ v) (e : stretch (length xs) v ≡ s) where
-  pub fill-past : s .pins ≡ 0 → length xs < v
-  fill-past z = elim (decLt (length xs) v) [ yes h ↦ h | no h ↦ absurd (omega (arith, rw e at (pins-of-node (length xs) v one (omega arith)))) ]
+module _ (xs : List ℕ) (v start pins : ℕ) (one : 1 ≤ v) (e : StretchIs (length xs) v start pins) where
+  pub fill-past : pins ≡ 0 → length xs < v
+  fill-past z = elim (decLt (length xs) v) [ yes h ↦ h | no h ↦ absurd (omega (arith, e .1, pins-of-node (length xs) v one (omega arith))) ]
 
-  pub fill-node : 1 ≤ s .pins → v ≤ length xs
-  fill-node h = elim (decLt (length xs) v) [ yes k ↦ absurd (omega (arith, rw e at (no-pins (length xs) v k))) | no k ↦ omega arith ]
+  pub fill-node : 1 ≤ pins → v ≤ length xs
+  fill-node h = elim (decLt (length xs) v) [ yes k ↦ absurd (omega (arith, e .1, no-pins (length xs) v k)) | no k ↦ omega arith ]
 
-  pub fill-time : timeOf xs v ≡ getD xs (s .start + rootPlace (s .pins) - 1) 0
-  unfolding timeOf rank
-  fill-time = rw e
+  pub fill-time : getD xs (start + rootPlace pins - 1) 0 ≡ timeOf xs v
+  unfolding timeOf
+  fill-time = rw (rank-is (length xs) v start pins e)
 
-  -- the same of its children
-  pub record Below (right : Bool) : Type 0 where
-    pub first : 1 ≤ childOf right v
-    pub under : stretch (length xs) (childOf right v) ≡ sideOf right s
-    pub above : timeAbove xs (childOf right v) ≡ timeOf xs v
+pub above-left : (xs : List ℕ) (v : ℕ) → 1 ≤ v → timeAbove xs (2 * v) ≡ timeOf xs v
+above-left xs v h = let e : 2 * v / 2 ≡ v = omega arith in above-child xs (2 * v) (omega arith) ∙ rw e
 
-  pub fill-below : (right : Bool) → Below right
-  fill-below right =
-      let b = child-bounds right v in
-      let k : 2 ≤ childOf right v = omega arith in
-      record {
-        first = omega arith;
-        under = stretch-child (length xs) right v one ∙ rw e;
-        above = above-child xs (childOf right v) k ∙ rw (parent-of right v);
-      }
+pub above-right : (xs : List ℕ) (v : ℕ) → 1 ≤ v → timeAbove xs (2 * v + 1) ≡ timeOf xs v
+above-right xs v h = let e : (2 * v + 1) / 2 ≡ v = omega arith in above-child xs (2 * v + 1) (omega arith) ∙ rw e

@@ -13,3 +13,4 @@ pub mod LevelValues
 pub mod Fills
 pub mod Paths
 pub mod Promises
+pub mod Shifts

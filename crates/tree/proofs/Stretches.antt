@@ -8,11 +8,10 @@ use native.Mathlib.Decide.{decLt, ℕ-discrete}
 use native.Mathlib.Omega.{arith}
 use lib.Dec.{eqb}
 use lib.Arith.{half-le}
-use lib.Pow.{pow-pos, pow-mono, shr-shr}
-use borrow.Author.Tests.{lt-ltb, le-ltb, eq-eqb, ne-eqb}
+use lib.Pow.{pow-pos, pow-mono}
+use borrow.Author.Tests.{le-ltb}
 use Rattle.tree.specs.declared.shape.Stretch.{Stretch}
-use Rattle.tree.specs.declared.shape.Ranked.the-variants.{At, NoNode}
-use Rattle.tree.specs.Shape.{rootPlace, childOf, sideOf, stretchIn, stretch, rank, ranked}
+use Rattle.tree.specs.Shape.{rootPlace, childOf, sideOf, stretchIn, stretch, StretchIs, rank}
 use Rattle.tree.proofs.Heights.{height-step, digits, place-law, place-in, place-small}
 
 -- ---- a stretch from its parent's
@@ -167,25 +166,17 @@ pub rank-in : (n v : ℕ) → 1 ≤ v → v ≤ n → (suc (rank n v) ≡ stretc
 unfolding rank
 rank-in n v a b = let p = place-in (stretch n v .pins) (pins-of-node n v a b) in omega arith
 
--- ---- the rank of any number
+-- ---- a stretch by its two numbers
 
-pub ranked-node : (n v : ℕ) → 1 ≤ v → 1 ≤ stretch n v .pins → ranked n v ≡ At (rank n v)
-unfolding ranked
-ranked-node n v h p = rw (ne-eqb v 0 (omega arith), le-ltb n v (elim (decLt n v) [ yes k ↦ absurd (omega (arith, no-pins n v k)) | no k ↦ omega arith ]))
+pub place-some : (n u start pins : ℕ) → 1 ≤ u → u ≤ n → StretchIs n u start pins → (1 ≤ rootPlace pins) × (rootPlace pins ≤ pins)
+place-some n u start pins h k e = place-in pins (rw (e .1) at (pins-of-node n u h k))
 
--- nothing stands at or below a node with no pins
-pub ranked-none : (n u v : ℕ) → 1 ≤ u → u ≤ v → stretch n u .pins ≡ 0 → ranked n v ≡ NoNode
-unfolding ranked
-ranked-none n u v h k e = rw (ne-eqb v 0 (omega arith), lt-ltb n v (elim (decLt n u) [ yes l ↦ omega arith | no l ↦ absurd (omega (arith, pins-of-node n u h (omega arith))) ]))
+pub is-left : (n u start pins : ℕ) → 1 ≤ u → StretchIs n u start pins → StretchIs n (2 * u) start (rootPlace pins - 1)
+is-left n u start pins h e = rw (stretch-left n u h, e .0, e .1) (refl, refl)
 
--- a number shifted by one bit less
-pub shift-half : (v d : ℕ) → 1 ≤ d → v / 2 ^ d ≡ v / 2 ^ (d - 1) / 2
-shift-half v d h = let e : d - 1 + 1 ≡ d = omega arith in sym (shr-shr v (d - 1) 1 ∙ rw e)
+pub is-right : (n u start pins : ℕ) → 1 ≤ u → StretchIs n u start pins → StretchIs n (2 * u + 1) (start + rootPlace pins) (pins - rootPlace pins)
+is-right n u start pins h e = rw (stretch-right n u h, e .0, e .1) (refl, refl)
 
--- every node but the root is one of its parent's children
-pub child-half : (v : ℕ) → v ≡ childOf (eqb (v % 2) 1) (v / 2)
-unfolding childOf
-child-half v = elim (ℕ-discrete (v % 2) 1) [
-  | yes e ↦ rw (eq-eqb (v % 2) 1 e) (omega arith)
-  | no e ↦ rw (ne-eqb (v % 2) 1 e) (omega arith)
-]
+pub rank-is : (n v start pins : ℕ) → StretchIs n v start pins → rank n v ≡ start + rootPlace pins - 1
+unfolding rank
+rank-is n v start pins e = rw (e .0, e .1)

@@ -1,7 +1,7 @@
 // The shape of the tree of n pins.
 ghost use mathlib.Core.Path.{_≡_};
 ghost use Prim.Native.Nat.{ℕ, _+_, _/_, _^_, _≤_, _<_};
-ghost use Rattle.tree.specs.Shape.{height, rootPlace, sideOf, childOf, stretch, ranked};
+ghost use Rattle.tree.specs.Shape.{height, rootPlace, sideOf, childOf, StretchIs, rank, ranked};
 
 // The stretch of the list under a node: where it starts and how many pins it has.
 pub struct Stretch {
@@ -65,21 +65,21 @@ pub fn side_of(s: Stretch, place: usize, right: bool) -> Stretch
     }
 }
 
-// The rank of node v, which stands `depth` levels below the node of stretch `s`.
-fn rank_under(s: Stretch, v: usize, depth: usize) -> Ranked
-    requires { ⌜ (depth < 64) × (s .start + s .pins < 2 ^ 64) ⌝ }
-    ensures { λ r. ⌜ ((n : ℕ) → 1 ≤ v / 2 ^ depth → stretch n (v / 2 ^ depth) ≡ s → r ≡ ranked n v) ⌝ }
+// The rank of node v, where the node `depth` levels above it has the stretch of `pins` from `start` on.
+fn rank_under(start: usize, pins: usize, v: usize, depth: usize) -> usize
+    requires { ⌜ (depth < 64) × (start + pins < 2 ^ 64) × (1 ≤ v / 2 ^ depth) ⌝ }
+    requires { ⌜ ((n : ℕ) × (v ≤ n) × StretchIs n (v / 2 ^ depth) start pins) ⌝ }
+    ensures { λ r. ⌜ ((n : ℕ) → StretchIs n (v / 2 ^ depth) start pins → r ≡ rank n v) ⌝ }
 {
-    let pins = s.pins;
-    if pins == 0 {
-        return Ranked::NoNode;
-    }
     let place = root_place(pins);
     if depth == 0 {
-        return Ranked::At(s.start + place - 1);
+        return start + place - 1;
     }
-    let right = (v >> (depth - 1)) % 2 == 1;
-    rank_under(side_of(s, place, right), v, depth - 1)
+    if (v >> (depth - 1)) % 2 == 0 {
+        rank_under(start, place - 1, v, depth - 1)
+    } else {
+        rank_under(start + place, pins - place, v, depth - 1)
+    }
 }
 
 // The rank of node v in a list of n.
@@ -89,9 +89,8 @@ pub fn rank(n: usize, v: usize) -> Ranked
     if v == 0 {
         return Ranked::NoNode;
     }
-    let whole = Stretch {
-        start: 0,
-        pins: n,
-    };
-    rank_under(whole, v, height(v) - 1)
+    if n < v {
+        return Ranked::NoNode;
+    }
+    Ranked::At(rank_under(0, n, v, height(v) - 1))
 }

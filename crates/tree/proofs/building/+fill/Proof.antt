@@ -4,20 +4,14 @@ use Rattle.tree.proofs.shape.root_place.Kinds as root-place-kinds
 use Rattle.tree.proofs.shape.root_place.Reads as root-place-reads
 use Rattle.tree.proofs.building.stored_value.Kinds as stored-value-kinds
 use Rattle.tree.proofs.building.stored_value.Reads as stored-value-reads
-use Rattle.tree.proofs.shape.side_of.Kinds as side-of-kinds
-use Rattle.tree.proofs.shape.side_of.Reads as side-of-reads
-use Rattle.tree.proofs.shape.child_of.Kinds as child-of-kinds
-use Rattle.tree.proofs.shape.child_of.Reads as child-of-reads
 use mathlib.Core.Path.{_≡_, sym, ap, _∙_}
-use mathlib.Core.Bool.{true, false}
 use Prim.Native.Nat.{ℕ, _+_, _-_, _≤_, _<_}
 use lib.ListN.{length, getD, set, length-set}
-use Rattle.tree.specs.Shape.{childOf}
 use Rattle.tree.specs.Stored.{timeOf, stored}
-use Rattle.tree.proofs.Stretches.{side-in}
-use Rattle.tree.proofs.Contents.{sides}
 use Rattle.tree.proofs.Heights.{place-in}
-use Rattle.tree.proofs.Fills.{filled-none, filled-node, fill-past, fill-node, fill-time, fill-below}
+use Rattle.tree.proofs.Stretches.{is-left, is-right}
+use Rattle.tree.proofs.Contents.{sides}
+use Rattle.tree.proofs.Fills.{filled-none, filled-node, fill-past, fill-node, fill-time, above-left, above-right}
 use borrow.Fn.Kinds.{In, Out}
 use borrow.Fn.PlainCycle.{Measures, is, falls, and}
 use Rattle.tree.proofs.building.fill.Reads as reads
@@ -27,7 +21,7 @@ use Rattle.tree.proofs.building.+fill.{statement}
 use Rattle.tree.proofs.building.+fill.Tie.{close}
 
 abbrev μ : Measures 2 kinds.ps ℕ
-μ κs a = a .1 .1 .0 .pins
+μ κs a = a .1 .1 .1 .0
 
 abbrev given : ℕ → In 2 kinds.ps
 given t = and 2 kinds.ps (is 2 kinds.ps μ t) reads.Pre
@@ -36,90 +30,95 @@ abbrev asked : ℕ → In 2 kinds.ps
 asked t = and 2 kinds.ps (falls 2 kinds.ps _<_ μ t) reads.Pre
 
 -- what is asked of the callees, and learnt from them
-abbrev calls : ℕ → In 0 root-place-kinds.ps × Out 0 root-place-kinds.ps root-place-kinds.r × In 0 stored-value-kinds.ps × Out 0 stored-value-kinds.ps stored-value-kinds.r × In 0 side-of-kinds.ps × Out 0 side-of-kinds.ps side-of-kinds.r × In 0 child-of-kinds.ps × Out 0 child-of-kinds.ps child-of-kinds.r × In 2 kinds.ps × Out 2 kinds.ps kinds.r
-calls t = (root-place-reads.Asked, root-place-reads.Learnt, stored-value-reads.Asked, stored-value-reads.Learnt, side-of-reads.Asked, side-of-reads.Learnt, child-of-reads.Asked, child-of-reads.Learnt, asked t, reads.Post)
+abbrev calls : ℕ → In 0 root-place-kinds.ps × Out 0 root-place-kinds.ps root-place-kinds.r × In 0 stored-value-kinds.ps × Out 0 stored-value-kinds.ps stored-value-kinds.r × In 2 kinds.ps × Out 2 kinds.ps kinds.r
+calls t = (root-place-reads.Asked, root-place-reads.Learnt, stored-value-reads.Asked, stored-value-reads.Learnt, asked t, reads.Post)
 
 returns : (t : ℕ) → lts.Need-returns (calls t) (given t) reads.Post
 returns t c =
     let a = c .before .before .before .args in
-    filled-none (a .times .now) (a .v) (a .values .now) (fill-past (a .times .now) (a .v) (a .s) (c .before .before .before .pre .1 .1 .0 .2) (c .before .before .before .pre .1 .1 .1 .0) (omega arith))
+    filled-none (a .times .now) (a .v) (a .values .now) (fill-past (c .before .before .before .args .times .now) (c .before .before .before .args .v) (c .before .before .before .args .start) (c .before .before .before .args .pins) (c .before .before .before .pre .1 .1 .0 .2) (c .before .before .before .pre .1 .1 .1 .0) (c .if1 .taken))
 
 root-place-requires : (t : ℕ) → lts.Need-root-place-requires (calls t) (given t) reads.Post
 root-place-requires t c κs = tt
 
 add-at : (t : ℕ) → lts.Need-add-at (calls t) (given t) reads.Post
-add-at t c = omega (arith, place-in (c .before .before .before .before .before .args .s .pins) (omega arith))
+add-at t c = omega (arith, place-in (c .before .before .before .before .args .pins) (omega arith))
 
 sub-at : (t : ℕ) → lts.Need-sub-at (calls t) (given t) reads.Post
-sub-at t c = omega (arith, place-in (c .before .before .before .before .before .args .s .pins) (omega arith))
+sub-at t c = omega (arith, place-in (c .before .before .before .before .args .pins) (omega arith))
 
 mul-time : (t : ℕ) → lts.Need-mul-time (calls t) (given t) reads.Post
-mul-time t c = omega (arith, place-in (c .before .before .before .before .before .args .s .pins) (omega arith))
+mul-time t c = omega (arith, place-in (c .before .before .before .before .args .pins) (omega arith))
 
 shared-slice-read-time : (t : ℕ) → lts.Need-shared-slice-read-time (calls t) (given t) reads.Post
-shared-slice-read-time t c = omega (arith, place-in (c .before .before .before .before .before .before .args .s .pins) (omega arith))
+shared-slice-read-time t c = omega (arith, place-in (c .before .before .before .before .before .args .pins) (omega arith))
 
 stored-value-requires : (t : ℕ) → lts.Need-stored-value-requires (calls t) (given t) reads.Post
 stored-value-requires t c κs =
-    let x : getD (c .before .before .before .before .before .before .args .times .now) (c .before .before .before .before .before .before .args .s .start + c .before .before .root-place .result - 1) 0 ≡ timeOf (c .before .before .before .before .before .before .args .times .now) (c .before .before .before .before .before .before .args .v) =
-    rw (c .before .before .root-place .ensures) (sym (fill-time (c .before .before .before .before .before .before .args .times .now) (c .before .before .before .before .before .before .args .v) (c .before .before .before .before .before .before .args .s) (c .before .before .before .before .before .before .pre .1 .1 .0 .2) (c .before .before .before .before .before .before .pre .1 .1 .1 .0))) in
-    let d = sides (c .before .before .before .before .before .before .args .times .now) (c .before .before .before .before .before .before .pre .1 .0) (c .before .before .before .before .before .before .args .v) (c .before .before .before .before .before .before .pre .1 .1 .0 .2) (fill-node (c .before .before .before .before .before .before .args .times .now) (c .before .before .before .before .before .before .args .v) (c .before .before .before .before .before .before .args .s) (c .before .before .before .before .before .before .pre .1 .1 .0 .2) (c .before .before .before .before .before .before .pre .1 .1 .1 .0) (omega arith)) in
-    rw (x, ← (c .before .before .before .before .before .before .pre .1 .1 .1 .2)) (d .even, d .odd)
+    let x : getD (c .before .before .before .before .before .args .times .now) (c .before .before .before .before .before .args .start + c .before .root-place .result - 1) 0 ≡ timeOf (c .before .before .before .before .before .args .times .now) (c .before .before .before .before .before .args .v) =
+    rw (c .before .root-place .ensures) (fill-time (c .before .before .before .before .before .args .times .now) (c .before .before .before .before .before .args .v) (c .before .before .before .before .before .args .start) (c .before .before .before .before .before .args .pins) (c .before .before .before .before .before .pre .1 .1 .0 .2) (c .before .before .before .before .before .pre .1 .1 .1 .0)) in
+    let d = sides (c .before .before .before .before .before .args .times .now) (c .before .before .before .before .before .pre .1 .0) (c .before .before .before .before .before .args .v) (c .before .before .before .before .before .pre .1 .1 .0 .2) (fill-node (c .before .before .before .before .before .args .times .now) (c .before .before .before .before .before .args .v) (c .before .before .before .before .before .args .start) (c .before .before .before .before .before .args .pins) (c .before .before .before .before .before .pre .1 .1 .0 .2) (c .before .before .before .before .before .pre .1 .1 .1 .0) (omega arith)) in
+    rw (x, ← (c .before .before .before .before .before .pre .1 .1 .1 .2)) (d .even, d .odd)
 
 sub-values : (t : ℕ) → lts.Need-sub-values (calls t) (given t) reads.Post
-sub-values t c = omega (arith, fill-node (c .before .before .before .before .before .before .before .args .times .now) (c .before .before .before .before .before .before .before .args .v) (c .before .before .before .before .before .before .before .args .s) (c .before .before .before .before .before .before .before .pre .1 .1 .0 .2) (c .before .before .before .before .before .before .before .pre .1 .1 .1 .0) (omega arith))
+sub-values t c = omega (arith, fill-node (c .before .before .before .before .before .before .args .times .now) (c .before .before .before .before .before .before .args .v) (c .before .before .before .before .before .before .args .start) (c .before .before .before .before .before .before .args .pins) (c .before .before .before .before .before .before .pre .1 .1 .0 .2) (c .before .before .before .before .before .before .pre .1 .1 .1 .0) (omega arith))
 
 mul-values : (t : ℕ) → lts.Need-mul-values (calls t) (given t) reads.Post
-mul-values t c = omega (arith, fill-node (c .before .before .before .before .before .before .before .args .times .now) (c .before .before .before .before .before .before .before .args .v) (c .before .before .before .before .before .before .before .args .s) (c .before .before .before .before .before .before .before .pre .1 .1 .0 .2) (c .before .before .before .before .before .before .before .pre .1 .1 .1 .0) (omega arith))
+mul-values t c = omega (arith, fill-node (c .before .before .before .before .before .before .args .times .now) (c .before .before .before .before .before .before .args .v) (c .before .before .before .before .before .before .args .start) (c .before .before .before .before .before .before .args .pins) (c .before .before .before .before .before .before .pre .1 .1 .0 .2) (c .before .before .before .before .before .before .pre .1 .1 .1 .0) (omega arith))
 
 slice-write-values : (t : ℕ) → lts.Need-slice-write-values (calls t) (given t) reads.Post
-slice-write-values t c = omega (arith, fill-node (c .before .before .before .before .before .before .before .args .times .now) (c .before .before .before .before .before .before .before .args .v) (c .before .before .before .before .before .before .before .args .s) (c .before .before .before .before .before .before .before .pre .1 .1 .0 .2) (c .before .before .before .before .before .before .before .pre .1 .1 .1 .0) (omega arith))
+slice-write-values t c = omega (arith, fill-node (c .before .before .before .before .before .before .args .times .now) (c .before .before .before .before .before .before .args .v) (c .before .before .before .before .before .before .args .start) (c .before .before .before .before .before .before .args .pins) (c .before .before .before .before .before .before .pre .1 .1 .0 .2) (c .before .before .before .before .before .before .pre .1 .1 .1 .0) (omega arith))
 
-side-of-requires : (t : ℕ) → lts.Need-side-of-requires (calls t) (given t) reads.Post
-side-of-requires t c κs = omega (arith, place-in (c .before .before .before .before .before .before .before .before .args .s .pins) (omega arith))
+sub-fill : (t : ℕ) → lts.Need-sub-fill (calls t) (given t) reads.Post
+sub-fill t c = omega (arith, place-in (c .before .before .before .before .before .before .before .args .pins) (omega arith))
 
-child-of-requires : (t : ℕ) → lts.Need-child-of-requires (calls t) (given t) reads.Post
-child-of-requires t c κs = omega (arith, fill-node (c .before .before .before .before .before .before .before .before .before .args .times .now) (c .before .before .before .before .before .before .before .before .before .args .v) (c .before .before .before .before .before .before .before .before .before .args .s) (c .before .before .before .before .before .before .before .before .before .pre .1 .1 .0 .2) (c .before .before .before .before .before .before .before .before .before .pre .1 .1 .1 .0) (omega arith))
+mul-fill : (t : ℕ) → lts.Need-mul-fill (calls t) (given t) reads.Post
+mul-fill t c = omega (arith, fill-node (c .before .before .before .before .before .before .before .args .times .now) (c .before .before .before .before .before .before .before .args .v) (c .before .before .before .before .before .before .before .args .start) (c .before .before .before .before .before .before .before .args .pins) (c .before .before .before .before .before .before .before .pre .1 .1 .0 .2) (c .before .before .before .before .before .before .before .pre .1 .1 .1 .0) (omega arith))
 
 fill-requires : (t : ℕ) → lts.Need-fill-requires (calls t) (given t) reads.Post
 fill-requires t c κs =
-    let x : getD (c .before .before .before .before .before .before .before .before .before .before .args .times .now) (c .before .before .before .before .before .before .before .before .before .before .args .s .start + c .before .before .before .before .before .before .root-place .result - 1) 0 ≡ timeOf (c .before .before .before .before .before .before .before .before .before .before .args .times .now) (c .before .before .before .before .before .before .before .before .before .before .args .v) =
-    rw (c .before .before .before .before .before .before .root-place .ensures) (sym (fill-time (c .before .before .before .before .before .before .before .before .before .before .args .times .now) (c .before .before .before .before .before .before .before .before .before .before .args .v) (c .before .before .before .before .before .before .before .before .before .before .args .s) (c .before .before .before .before .before .before .before .before .before .before .pre .1 .1 .0 .2) (c .before .before .before .before .before .before .before .before .before .before .pre .1 .1 .1 .0))) in
-    let b = fill-below (c .before .before .before .before .before .before .before .before .before .before .args .times .now) (c .before .before .before .before .before .before .before .before .before .before .args .v) (c .before .before .before .before .before .before .before .before .before .before .args .s) (c .before .before .before .before .before .before .before .before .before .before .pre .1 .1 .0 .2) (c .before .before .before .before .before .before .before .before .before .before .pre .1 .1 .1 .0) false in
-    let i = side-in false (c .before .before .before .before .before .before .before .before .before .before .args .s) (omega arith) in
-    rw (c .child-of .ensures, c .before .side-of .ensures, length-set)
-    (omega (arith, c .before .before .before .before .before .before .before .before .before .before .pre .0), (c .before .before .before .before .before .before .before .before .before .before .pre .1 .0, ((c .before .before .before .before .before .before .before .before .before .before .pre .1 .1 .0 .0, c .before .before .before .before .before .before .before .before .before .before .pre .1 .1 .0 .1, b .first), (b .under, omega arith, b .above ∙ sym x))))
+    let a = c .before .before .before .before .before .before .before .args in
+    let x : getD (c .before .before .before .before .before .before .before .args .times .now) (c .before .before .before .before .before .before .before .args .start + c .before .before .before .root-place .result - 1) 0 ≡ timeOf (c .before .before .before .before .before .before .before .args .times .now) (c .before .before .before .before .before .before .before .args .v) =
+    rw (c .before .before .before .root-place .ensures) (fill-time (c .before .before .before .before .before .before .before .args .times .now) (c .before .before .before .before .before .before .before .args .v) (c .before .before .before .before .before .before .before .args .start) (c .before .before .before .before .before .before .before .args .pins) (c .before .before .before .before .before .before .before .pre .1 .1 .0 .2) (c .before .before .before .before .before .before .before .pre .1 .1 .1 .0)) in
+    let p = place-in (c .before .before .before .before .before .before .before .args .pins) (omega arith) in
+    (omega (arith, c .before .before .before .before .before .before .before .pre .0), (c .before .before .before .before .before .before .before .pre .1 .0, ((rw length-set (c .before .before .before .before .before .before .before .pre .1 .1 .0 .0), c .before .before .before .before .before .before .before .pre .1 .1 .0 .1, omega arith),
+    (rw (c .before .before .before .root-place .ensures) (is-left (length (c .before .before .before .before .before .before .before .args .times .now)) (c .before .before .before .before .before .before .before .args .v) (c .before .before .before .before .before .before .before .args .start) (c .before .before .before .before .before .before .before .args .pins) (c .before .before .before .before .before .before .before .pre .1 .1 .0 .2) (c .before .before .before .before .before .before .before .pre .1 .1 .1 .0)), omega arith, above-left (a .times .now) (a .v) (c .before .before .before .before .before .before .before .pre .1 .1 .0 .2) ∙ sym x))))
 
-side-of-requires-2 : (t : ℕ) → lts.Need-side-of-requires-2 (calls t) (given t) reads.Post
-side-of-requires-2 t c κs = omega (arith, place-in (c .before .before .before .before .before .before .before .before .before .before .before .before .before .before .args .s .pins) (omega arith))
+add-fill : (t : ℕ) → lts.Need-add-fill (calls t) (given t) reads.Post
+add-fill t c = omega (arith, place-in (c .before .before .before .before .before .before .before .before .before .before .before .args .pins) (omega arith))
 
-child-of-requires-2 : (t : ℕ) → lts.Need-child-of-requires-2 (calls t) (given t) reads.Post
-child-of-requires-2 t c κs = omega (arith, fill-node (c .before .before .before .before .before .before .before .before .before .before .before .before .before .before .before .args .times .now) (c .before .before .before .before .before .before .before .before .before .before .before .before .before .before .before .args .v) (c .before .before .before .before .before .before .before .before .before .before .before .before .before .before .before .args .s) (c .before .before .before .before .before .before .before .before .before .before .before .before .before .before .before .pre .1 .1 .0 .2) (c .before .before .before .before .before .before .before .before .before .before .before .before .before .before .before .pre .1 .1 .1 .0) (omega arith))
+sub-fill-2 : (t : ℕ) → lts.Need-sub-fill-2 (calls t) (given t) reads.Post
+sub-fill-2 t c = omega (arith, place-in (c .before .before .before .before .before .before .before .before .before .before .before .args .pins) (omega arith))
+
+mul-fill-2 : (t : ℕ) → lts.Need-mul-fill-2 (calls t) (given t) reads.Post
+mul-fill-2 t c = omega (arith, fill-node (c .before .before .before .before .before .before .before .before .before .before .before .args .times .now) (c .before .before .before .before .before .before .before .before .before .before .before .args .v) (c .before .before .before .before .before .before .before .before .before .before .before .args .start) (c .before .before .before .before .before .before .before .before .before .before .before .args .pins) (c .before .before .before .before .before .before .before .before .before .before .before .pre .1 .1 .0 .2) (c .before .before .before .before .before .before .before .before .before .before .before .pre .1 .1 .1 .0) (omega arith))
+
+add-fill-2 : (t : ℕ) → lts.Need-add-fill-2 (calls t) (given t) reads.Post
+add-fill-2 t c = omega (arith, fill-node (c .before .before .before .before .before .before .before .before .before .before .before .args .times .now) (c .before .before .before .before .before .before .before .before .before .before .before .args .v) (c .before .before .before .before .before .before .before .before .before .before .before .args .start) (c .before .before .before .before .before .before .before .before .before .before .before .args .pins) (c .before .before .before .before .before .before .before .before .before .before .before .pre .1 .1 .0 .2) (c .before .before .before .before .before .before .before .before .before .before .before .pre .1 .1 .1 .0) (omega arith))
 
 fill-requires-2 : (t : ℕ) → lts.Need-fill-requires-2 (calls t) (given t) reads.Post
 fill-requires-2 t c κs =
-    let x : getD (c .before .before .before .before .before .before .before .before .before .before .before .before .before .before .before .before .args .times .now) (c .before .before .before .before .before .before .before .before .before .before .before .before .before .before .before .before .args .s .start + c .before .before .before .before .before .before .before .before .before .before .before .before .root-place .result - 1) 0 ≡ timeOf (c .before .before .before .before .before .before .before .before .before .before .before .before .before .before .before .before .args .times .now) (c .before .before .before .before .before .before .before .before .before .before .before .before .before .before .before .before .args .v) =
-    rw (c .before .before .before .before .before .before .before .before .before .before .before .before .root-place .ensures) (sym (fill-time (c .before .before .before .before .before .before .before .before .before .before .before .before .before .before .before .before .args .times .now) (c .before .before .before .before .before .before .before .before .before .before .before .before .before .before .before .before .args .v) (c .before .before .before .before .before .before .before .before .before .before .before .before .before .before .before .before .args .s) (c .before .before .before .before .before .before .before .before .before .before .before .before .before .before .before .before .pre .1 .1 .0 .2) (c .before .before .before .before .before .before .before .before .before .before .before .before .before .before .before .before .pre .1 .1 .1 .0))) in
-    let b = fill-below (c .before .before .before .before .before .before .before .before .before .before .before .before .before .before .before .before .args .times .now) (c .before .before .before .before .before .before .before .before .before .before .before .before .before .before .before .before .args .v) (c .before .before .before .before .before .before .before .before .before .before .before .before .before .before .before .before .args .s) (c .before .before .before .before .before .before .before .before .before .before .before .before .before .before .before .before .pre .1 .1 .0 .2) (c .before .before .before .before .before .before .before .before .before .before .before .before .before .before .before .before .pre .1 .1 .1 .0) true in
-    let i = side-in true (c .before .before .before .before .before .before .before .before .before .before .before .before .before .before .before .before .args .s) (omega arith) in
-    let room : length (c .before .before .before .before .before .before .before .before .before .before .before .before .before .before .before .before .args .times .now) ≤ length (c .before .before .before .before .before .fill .last .0) = rw (c .before .before .before .before .before .fill .kept .0, length-set) (c .before .before .before .before .before .before .before .before .before .before .before .before .before .before .before .before .pre .1 .1 .0 .0) in
-    rw (c .child-of2 .ensures, c .before .side-of2 .ensures)
-    (omega (arith, c .before .before .before .before .before .before .before .before .before .before .before .before .before .before .before .before .pre .0), (c .before .before .before .before .before .before .before .before .before .before .before .before .before .before .before .before .pre .1 .0, ((room, c .before .before .before .before .before .before .before .before .before .before .before .before .before .before .before .before .pre .1 .1 .0 .1, b .first), (b .under, omega arith, b .above ∙ sym x))))
+    let a = c .before .before .before .before .before .before .before .before .before .before .before .args in
+    let x : getD (c .before .before .before .before .before .before .before .before .before .before .before .args .times .now) (c .before .before .before .before .before .before .before .before .before .before .before .args .start + c .before .before .before .before .before .before .before .root-place .result - 1) 0 ≡ timeOf (c .before .before .before .before .before .before .before .before .before .before .before .args .times .now) (c .before .before .before .before .before .before .before .before .before .before .before .args .v) =
+    rw (c .before .before .before .before .before .before .before .root-place .ensures) (fill-time (c .before .before .before .before .before .before .before .before .before .before .before .args .times .now) (c .before .before .before .before .before .before .before .before .before .before .before .args .v) (c .before .before .before .before .before .before .before .before .before .before .before .args .start) (c .before .before .before .before .before .before .before .before .before .before .before .args .pins) (c .before .before .before .before .before .before .before .before .before .before .before .pre .1 .1 .0 .2) (c .before .before .before .before .before .before .before .before .before .before .before .pre .1 .1 .1 .0)) in
+    let p = place-in (c .before .before .before .before .before .before .before .before .before .before .before .args .pins) (omega arith) in
+    let room : length (a .times .now) ≤ length (c .before .before .before .fill .last .0) = rw (c .before .before .before .fill .kept .0, length-set) (c .before .before .before .before .before .before .before .before .before .before .before .pre .1 .1 .0 .0) in
+    (omega (arith, c .before .before .before .before .before .before .before .before .before .before .before .pre .0), (c .before .before .before .before .before .before .before .before .before .before .before .pre .1 .0, ((room, c .before .before .before .before .before .before .before .before .before .before .before .pre .1 .1 .0 .1, omega arith),
+    (rw (c .before .before .before .before .before .before .before .root-place .ensures) (is-right (length (c .before .before .before .before .before .before .before .before .before .before .before .args .times .now)) (c .before .before .before .before .before .before .before .before .before .before .before .args .v) (c .before .before .before .before .before .before .before .before .before .before .before .args .start) (c .before .before .before .before .before .before .before .before .before .before .before .args .pins) (c .before .before .before .before .before .before .before .before .before .before .before .pre .1 .1 .0 .2) (c .before .before .before .before .before .before .before .before .before .before .before .pre .1 .1 .1 .0)), omega arith, above-right (a .times .now) (a .v) (c .before .before .before .before .before .before .before .before .before .before .before .pre .1 .1 .0 .2) ∙ sym x))))
 
 same-length : (t : ℕ) → lts.Need-same-length (calls t) (given t) reads.Post
-same-length t c = c .before .before .fill2 .kept .0 ∙ c .before .before .before .before .before .before .before .before .fill .kept .0 ∙ length-set (c .before .before .before .before .before .before .before .before .before .before .before .before .before .before .before .before .before .before .before .args .values .now) (c .before .before .before .before .before .before .before .before .before .before .before .before .before .before .before .before .before .before .before .args .v - 1) (c .before .before .before .before .before .before .before .before .before .before .before .before .stored-value .result)
+same-length t c = c .before .before .fill2 .kept .0 ∙ c .before .before .before .before .before .before .fill .kept .0 ∙ length-set (c .before .before .before .before .before .before .before .before .before .before .before .before .before .before .args .values .now) (c .before .before .before .before .before .before .before .before .before .before .before .before .before .before .args .v - 1) (c .before .before .before .before .before .before .before .before .stored-value .result)
 
 returns-2 : (t : ℕ) → lts.Need-returns-2 (calls t) (given t) reads.Post
-unfolding stored childOf
+unfolding stored
 returns-2 t c =
-    let a = c .before .before .before .before .before .before .before .before .before .before .before .before .before .before .before .before .before .before .before .args in
-    let x : getD (c .before .before .before .before .before .before .before .before .before .before .before .before .before .before .before .before .before .before .before .args .times .now) (c .before .before .before .before .before .before .before .before .before .before .before .before .before .before .before .before .before .before .before .args .s .start + c .before .before .before .before .before .before .before .before .before .before .before .before .before .before .before .root-place .result - 1) 0 ≡ timeOf (c .before .before .before .before .before .before .before .before .before .before .before .before .before .before .before .before .before .before .before .args .times .now) (c .before .before .before .before .before .before .before .before .before .before .before .before .before .before .before .before .before .before .before .args .v) =
-    rw (c .before .before .before .before .before .before .before .before .before .before .before .before .before .before .before .root-place .ensures) (sym (fill-time (c .before .before .before .before .before .before .before .before .before .before .before .before .before .before .before .before .before .before .before .args .times .now) (c .before .before .before .before .before .before .before .before .before .before .before .before .before .before .before .before .before .before .before .args .v) (c .before .before .before .before .before .before .before .before .before .before .before .before .before .before .before .before .before .before .before .args .s) (c .before .before .before .before .before .before .before .before .before .before .before .before .before .before .before .before .before .before .before .pre .1 .1 .0 .2) (c .before .before .before .before .before .before .before .before .before .before .before .before .before .before .before .before .before .before .before .pre .1 .1 .1 .0))) in
-    let d : c .before .before .before .before .before .before .before .before .before .before .before .before .stored-value .result ≡ stored (a .times .now) (a .v) = c .before .before .before .before .before .before .before .before .before .before .before .before .stored-value .ensures ∙ rw (x, c .before .before .before .before .before .before .before .before .before .before .before .before .before .before .before .before .before .before .before .pre .1 .1 .1 .2) in
-    let k = fill-node (c .before .before .before .before .before .before .before .before .before .before .before .before .before .before .before .before .before .before .before .args .times .now) (c .before .before .before .before .before .before .before .before .before .before .before .before .before .before .before .before .before .before .before .args .v) (c .before .before .before .before .before .before .before .before .before .before .before .before .before .before .before .before .before .before .before .args .s) (c .before .before .before .before .before .before .before .before .before .before .before .before .before .before .before .before .before .before .before .pre .1 .1 .0 .2) (c .before .before .before .before .before .before .before .before .before .before .before .before .before .before .before .before .before .before .before .pre .1 .1 .1 .0) (omega arith) in
-    filled-node (a .times .now) (a .v) (a .values .now) (set (a .values .now) (a .v - 1) (c .before .before .before .before .before .before .before .before .before .before .before .before .stored-value .result)) (c .before .before .before .before .before .before .before .before .fill .last .0) (c .before .before .fill2 .last .0)
-    (c .before .before .before .before .before .before .before .before .before .before .before .before .before .before .before .before .before .before .before .pre .1 .1 .0 .2) k (omega (arith, k, c .before .before .before .before .before .before .before .before .before .before .before .before .before .before .before .before .before .before .before .pre .1 .1 .0 .0)) (ap (set (a .values .now) (a .v - 1)) d)
-    (rw (c .before .before .before .before .before .before .before .before .before .child-of .ensures) at (c .before .before .before .before .before .before .before .before .fill .ensures)) (rw (c .before .before .before .child-of2 .ensures) at (c .before .before .fill2 .ensures))
+    let a = c .before .before .before .before .before .before .before .before .before .before .before .before .before .before .args in
+    let x : getD (c .before .before .before .before .before .before .before .before .before .before .before .before .before .before .args .times .now) (c .before .before .before .before .before .before .before .before .before .before .before .before .before .before .args .start + c .before .before .before .before .before .before .before .before .before .before .root-place .result - 1) 0 ≡ timeOf (c .before .before .before .before .before .before .before .before .before .before .before .before .before .before .args .times .now) (c .before .before .before .before .before .before .before .before .before .before .before .before .before .before .args .v) =
+    rw (c .before .before .before .before .before .before .before .before .before .before .root-place .ensures) (fill-time (c .before .before .before .before .before .before .before .before .before .before .before .before .before .before .args .times .now) (c .before .before .before .before .before .before .before .before .before .before .before .before .before .before .args .v) (c .before .before .before .before .before .before .before .before .before .before .before .before .before .before .args .start) (c .before .before .before .before .before .before .before .before .before .before .before .before .before .before .args .pins) (c .before .before .before .before .before .before .before .before .before .before .before .before .before .before .pre .1 .1 .0 .2) (c .before .before .before .before .before .before .before .before .before .before .before .before .before .before .pre .1 .1 .1 .0)) in
+    let d : c .before .before .before .before .before .before .before .before .stored-value .result ≡ stored (a .times .now) (a .v) = c .before .before .before .before .before .before .before .before .stored-value .ensures ∙ rw (x, c .before .before .before .before .before .before .before .before .before .before .before .before .before .before .pre .1 .1 .1 .2) in
+    let k = fill-node (c .before .before .before .before .before .before .before .before .before .before .before .before .before .before .args .times .now) (c .before .before .before .before .before .before .before .before .before .before .before .before .before .before .args .v) (c .before .before .before .before .before .before .before .before .before .before .before .before .before .before .args .start) (c .before .before .before .before .before .before .before .before .before .before .before .before .before .before .args .pins) (c .before .before .before .before .before .before .before .before .before .before .before .before .before .before .pre .1 .1 .0 .2) (c .before .before .before .before .before .before .before .before .before .before .before .before .before .before .pre .1 .1 .1 .0) (omega arith) in
+    filled-node (a .times .now) (a .v) (a .values .now) (set (a .values .now) (a .v - 1) (c .before .before .before .before .before .before .before .before .stored-value .result)) (c .before .before .before .before .before .before .fill .last .0) (c .before .before .fill2 .last .0)
+    (c .before .before .before .before .before .before .before .before .before .before .before .before .before .before .pre .1 .1 .0 .2) k (omega (arith, c .before .before .before .before .before .before .before .before .before .before .before .before .before .before .pre .1 .1 .0 .0)) (ap (set (a .values .now) (a .v - 1)) d) (c .before .before .before .before .before .before .fill .ensures) (c .before .before .fill2 .ensures)
 
 pub +fill-spec : {M : Type 1} → statement M
 +fill-spec = close μ λ t. lts.spec (calls t)
@@ -135,11 +134,13 @@ pub +fill-spec : {M : Type 1} → statement M
     (sub-values t)
     (mul-values t)
     (slice-write-values t)
-    (side-of-requires t)
-    (child-of-requires t)
+    (sub-fill t)
+    (mul-fill t)
     (fill-requires t)
-    (side-of-requires-2 t)
-    (child-of-requires-2 t)
+    (add-fill t)
+    (sub-fill-2 t)
+    (mul-fill-2 t)
+    (add-fill-2 t)
     (fill-requires-2 t)
     (same-length t)
     (returns-2 t)
