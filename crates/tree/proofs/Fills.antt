@@ -11,7 +11,8 @@ use lib.Seq.{ext-getD, getD-append-add, getD-drop, getD-set-same, getD-set-other
 use Rattle.tree.specs.Shape.{rootPlace, StretchIs}
 use Rattle.tree.specs.Stored.{timeOf, timeAbove, stored, storedValues}
 use Rattle.tree.specs.Filled.{Under, here, in-left, in-right, Correct, Filled}
-use Rattle.tree.proofs.Stretches.{pins-of-node, no-pins, rank-is}
+use Rattle.tree.proofs.Heights.{place-small}
+use Rattle.tree.proofs.Stretches.{pins-of-node, no-pins, is-left, rank-is}
 use Rattle.tree.proofs.Contents.{above-child}
 use Rattle.tree.proofs.LevelValues.{length-stored, getD-stored}
 use Rattle.tree.proofs.Ranks.{under-root, under-out}
@@ -60,6 +61,11 @@ module _ (xs : List ℕ) where
       done i (in-left u) k = correct-stays i _ _ (r .others i) (l .done i u k)
       done i (in-right u) k = r .done i u k
 
+  pub filled-leaf : (v : ℕ) (before now : List ℕ) → 1 ≤ v → v ≤ length xs → v ≤ length before → now ≡ set before (v - 1) (stored xs v)
+      → length xs < 2 * v → Filled xs v before now
+  filled-leaf v before now one h room w last =
+      filled-node v before now now now one h room w (filled-none (2 * v) now last) (filled-none (2 * v + 1) now (omega arith))
+
   -- from the root on: the list's stored values, and what stood after them
   pub filled-all : (before after : List ℕ) → length xs ≤ length before → Filled xs 1 before after → after ≡ storedValues xs ++ drop (length xs) before
   filled-all before after room f = ext-getD 0 after (storedValues xs ++ drop (length xs) before) same-length (λ i h. entry i (decLt i (length xs)))
@@ -98,6 +104,12 @@ module _ (xs : List ℕ) (v start pins : ℕ) (one : 1 ≤ v) (e : StretchIs (le
   pub fill-time : getD xs (start + rootPlace pins - 1) 0 ≡ timeOf xs v
   unfolding timeOf
   fill-time = rw (rank-is (length xs) v start pins e)
+
+-- a node with one pin has no children
+pub fill-leaf : (xs : List ℕ) (v start pins : ℕ) → 1 ≤ v → StretchIs (length xs) v start pins → pins ≡ 1 → length xs < 2 * v
+fill-leaf xs v start pins one e p =
+    let z : rootPlace pins - 1 ≡ 0 = rw p (omega (arith, place-small 1 (omega arith))) in
+    fill-past xs (2 * v) start (rootPlace pins - 1) (omega arith) (is-left (length xs) v start pins one e) z
 
 pub above-left : (xs : List ℕ) (v : ℕ) → 1 ≤ v → timeAbove xs (2 * v) ≡ timeOf xs v
 above-left xs v h = let e : 2 * v / 2 ≡ v = omega arith in above-child xs (2 * v) (omega arith) ∙ rw e

@@ -34,6 +34,9 @@ fn fill(values: &mut [u32], times: &[u32], start: usize, pins: usize, v: usize, 
     let at = start + place - 1;
     let time = times[at];
     values[v - 1] = stored_value(v, above, time);
+    if pins == 1 {
+        return;
+    }
     fill(values, times, start, place - 1, 2 * v, time);
     fill(values, times, start + place, pins - place, 2 * v + 1, time);
 }

@@ -75,11 +75,12 @@ fn rank_under(start: usize, pins: usize, v: usize, depth: usize) -> usize
     if depth == 0 {
         return start + place - 1;
     }
-    if (v >> (depth - 1)) % 2 == 0 {
-        rank_under(start, place - 1, v, depth - 1)
-    } else {
-        rank_under(start + place, pins - place, v, depth - 1)
-    }
+    let here = Stretch {
+        start: start,
+        pins: pins,
+    };
+    let side = side_of(here, place, (v >> (depth - 1)) % 2 == 1);
+    rank_under(side.start, side.pins, v, depth - 1)
 }
 
 // The rank of node v in a list of n.

@@ -11,7 +11,7 @@ use Rattle.tree.specs.Stored.{timeOf, stored}
 use Rattle.tree.proofs.Heights.{place-in}
 use Rattle.tree.proofs.Stretches.{is-left, is-right}
 use Rattle.tree.proofs.Contents.{sides}
-use Rattle.tree.proofs.Fills.{filled-none, filled-node, fill-past, fill-node, fill-time, above-left, above-right}
+use Rattle.tree.proofs.Fills.{filled-none, filled-node, filled-leaf, fill-past, fill-node, fill-leaf, fill-time, above-left, above-right}
 use borrow.Fn.Kinds.{In, Out}
 use borrow.Fn.PlainCycle.{Measures, is, falls, and}
 use Rattle.tree.proofs.building.fill.Reads as reads
@@ -69,56 +69,70 @@ mul-values t c = omega (arith, fill-node (c .before .before .before .before .bef
 slice-write-values : (t : ℕ) → lts.Need-slice-write-values (calls t) (given t) reads.Post
 slice-write-values t c = omega (arith, fill-node (c .before .before .before .before .before .before .args .times .now) (c .before .before .before .before .before .before .args .v) (c .before .before .before .before .before .before .args .start) (c .before .before .before .before .before .before .args .pins) (c .before .before .before .before .before .before .pre .1 .1 .0 .2) (c .before .before .before .before .before .before .pre .1 .1 .1 .0) (omega arith))
 
-sub-fill : (t : ℕ) → lts.Need-sub-fill (calls t) (given t) reads.Post
-sub-fill t c = omega (arith, place-in (c .before .before .before .before .before .before .before .args .pins) (omega arith))
-
-mul-fill : (t : ℕ) → lts.Need-mul-fill (calls t) (given t) reads.Post
-mul-fill t c = omega (arith, fill-node (c .before .before .before .before .before .before .before .args .times .now) (c .before .before .before .before .before .before .before .args .v) (c .before .before .before .before .before .before .before .args .start) (c .before .before .before .before .before .before .before .args .pins) (c .before .before .before .before .before .before .before .pre .1 .1 .0 .2) (c .before .before .before .before .before .before .before .pre .1 .1 .1 .0) (omega arith))
-
-fill-requires : (t : ℕ) → lts.Need-fill-requires (calls t) (given t) reads.Post
-fill-requires t c κs =
-    let a = c .before .before .before .before .before .before .before .args in
-    let x : getD (c .before .before .before .before .before .before .before .args .times .now) (c .before .before .before .before .before .before .before .args .start + c .before .before .before .root-place .result - 1) 0 ≡ timeOf (c .before .before .before .before .before .before .before .args .times .now) (c .before .before .before .before .before .before .before .args .v) =
-    rw (c .before .before .before .root-place .ensures) (fill-time (c .before .before .before .before .before .before .before .args .times .now) (c .before .before .before .before .before .before .before .args .v) (c .before .before .before .before .before .before .before .args .start) (c .before .before .before .before .before .before .before .args .pins) (c .before .before .before .before .before .before .before .pre .1 .1 .0 .2) (c .before .before .before .before .before .before .before .pre .1 .1 .1 .0)) in
-    let p = place-in (c .before .before .before .before .before .before .before .args .pins) (omega arith) in
-    (omega (arith, c .before .before .before .before .before .before .before .pre .0), (c .before .before .before .before .before .before .before .pre .1 .0, ((rw length-set (c .before .before .before .before .before .before .before .pre .1 .1 .0 .0), c .before .before .before .before .before .before .before .pre .1 .1 .0 .1, omega arith),
-    (rw (c .before .before .before .root-place .ensures) (is-left (length (c .before .before .before .before .before .before .before .args .times .now)) (c .before .before .before .before .before .before .before .args .v) (c .before .before .before .before .before .before .before .args .start) (c .before .before .before .before .before .before .before .args .pins) (c .before .before .before .before .before .before .before .pre .1 .1 .0 .2) (c .before .before .before .before .before .before .before .pre .1 .1 .1 .0)), omega arith, above-left (a .times .now) (a .v) (c .before .before .before .before .before .before .before .pre .1 .1 .0 .2) ∙ sym x))))
-
-add-fill : (t : ℕ) → lts.Need-add-fill (calls t) (given t) reads.Post
-add-fill t c = omega (arith, place-in (c .before .before .before .before .before .before .before .before .before .before .before .args .pins) (omega arith))
-
-sub-fill-2 : (t : ℕ) → lts.Need-sub-fill-2 (calls t) (given t) reads.Post
-sub-fill-2 t c = omega (arith, place-in (c .before .before .before .before .before .before .before .before .before .before .before .args .pins) (omega arith))
-
-mul-fill-2 : (t : ℕ) → lts.Need-mul-fill-2 (calls t) (given t) reads.Post
-mul-fill-2 t c = omega (arith, fill-node (c .before .before .before .before .before .before .before .before .before .before .before .args .times .now) (c .before .before .before .before .before .before .before .before .before .before .before .args .v) (c .before .before .before .before .before .before .before .before .before .before .before .args .start) (c .before .before .before .before .before .before .before .before .before .before .before .args .pins) (c .before .before .before .before .before .before .before .before .before .before .before .pre .1 .1 .0 .2) (c .before .before .before .before .before .before .before .before .before .before .before .pre .1 .1 .1 .0) (omega arith))
-
-add-fill-2 : (t : ℕ) → lts.Need-add-fill-2 (calls t) (given t) reads.Post
-add-fill-2 t c = omega (arith, fill-node (c .before .before .before .before .before .before .before .before .before .before .before .args .times .now) (c .before .before .before .before .before .before .before .before .before .before .before .args .v) (c .before .before .before .before .before .before .before .before .before .before .before .args .start) (c .before .before .before .before .before .before .before .before .before .before .before .args .pins) (c .before .before .before .before .before .before .before .before .before .before .before .pre .1 .1 .0 .2) (c .before .before .before .before .before .before .before .before .before .before .before .pre .1 .1 .1 .0) (omega arith))
-
-fill-requires-2 : (t : ℕ) → lts.Need-fill-requires-2 (calls t) (given t) reads.Post
-fill-requires-2 t c κs =
-    let a = c .before .before .before .before .before .before .before .before .before .before .before .args in
-    let x : getD (c .before .before .before .before .before .before .before .before .before .before .before .args .times .now) (c .before .before .before .before .before .before .before .before .before .before .before .args .start + c .before .before .before .before .before .before .before .root-place .result - 1) 0 ≡ timeOf (c .before .before .before .before .before .before .before .before .before .before .before .args .times .now) (c .before .before .before .before .before .before .before .before .before .before .before .args .v) =
-    rw (c .before .before .before .before .before .before .before .root-place .ensures) (fill-time (c .before .before .before .before .before .before .before .before .before .before .before .args .times .now) (c .before .before .before .before .before .before .before .before .before .before .before .args .v) (c .before .before .before .before .before .before .before .before .before .before .before .args .start) (c .before .before .before .before .before .before .before .before .before .before .before .args .pins) (c .before .before .before .before .before .before .before .before .before .before .before .pre .1 .1 .0 .2) (c .before .before .before .before .before .before .before .before .before .before .before .pre .1 .1 .1 .0)) in
-    let p = place-in (c .before .before .before .before .before .before .before .before .before .before .before .args .pins) (omega arith) in
-    let room : length (a .times .now) ≤ length (c .before .before .before .fill .last .0) = rw (c .before .before .before .fill .kept .0, length-set) (c .before .before .before .before .before .before .before .before .before .before .before .pre .1 .1 .0 .0) in
-    (omega (arith, c .before .before .before .before .before .before .before .before .before .before .before .pre .0), (c .before .before .before .before .before .before .before .before .before .before .before .pre .1 .0, ((room, c .before .before .before .before .before .before .before .before .before .before .before .pre .1 .1 .0 .1, omega arith),
-    (rw (c .before .before .before .before .before .before .before .root-place .ensures) (is-right (length (c .before .before .before .before .before .before .before .before .before .before .before .args .times .now)) (c .before .before .before .before .before .before .before .before .before .before .before .args .v) (c .before .before .before .before .before .before .before .before .before .before .before .args .start) (c .before .before .before .before .before .before .before .before .before .before .before .args .pins) (c .before .before .before .before .before .before .before .before .before .before .before .pre .1 .1 .0 .2) (c .before .before .before .before .before .before .before .before .before .before .before .pre .1 .1 .1 .0)), omega arith, above-right (a .times .now) (a .v) (c .before .before .before .before .before .before .before .before .before .before .before .pre .1 .1 .0 .2) ∙ sym x))))
-
 same-length : (t : ℕ) → lts.Need-same-length (calls t) (given t) reads.Post
-same-length t c = c .before .before .fill2 .kept .0 ∙ c .before .before .before .before .before .before .fill .kept .0 ∙ length-set (c .before .before .before .before .before .before .before .before .before .before .before .before .before .before .args .values .now) (c .before .before .before .before .before .before .before .before .before .before .before .before .before .before .args .v - 1) (c .before .before .before .before .before .before .before .before .stored-value .result)
+same-length t c = length-set (c .before .before .before .before .before .before .before .args .values .now) (c .before .before .before .before .before .before .before .args .v - 1) (c .before .stored-value .result)
 
 returns-2 : (t : ℕ) → lts.Need-returns-2 (calls t) (given t) reads.Post
 unfolding stored
 returns-2 t c =
-    let a = c .before .before .before .before .before .before .before .before .before .before .before .before .before .before .args in
-    let x : getD (c .before .before .before .before .before .before .before .before .before .before .before .before .before .before .args .times .now) (c .before .before .before .before .before .before .before .before .before .before .before .before .before .before .args .start + c .before .before .before .before .before .before .before .before .before .before .root-place .result - 1) 0 ≡ timeOf (c .before .before .before .before .before .before .before .before .before .before .before .before .before .before .args .times .now) (c .before .before .before .before .before .before .before .before .before .before .before .before .before .before .args .v) =
-    rw (c .before .before .before .before .before .before .before .before .before .before .root-place .ensures) (fill-time (c .before .before .before .before .before .before .before .before .before .before .before .before .before .before .args .times .now) (c .before .before .before .before .before .before .before .before .before .before .before .before .before .before .args .v) (c .before .before .before .before .before .before .before .before .before .before .before .before .before .before .args .start) (c .before .before .before .before .before .before .before .before .before .before .before .before .before .before .args .pins) (c .before .before .before .before .before .before .before .before .before .before .before .before .before .before .pre .1 .1 .0 .2) (c .before .before .before .before .before .before .before .before .before .before .before .before .before .before .pre .1 .1 .1 .0)) in
-    let d : c .before .before .before .before .before .before .before .before .stored-value .result ≡ stored (a .times .now) (a .v) = c .before .before .before .before .before .before .before .before .stored-value .ensures ∙ rw (x, c .before .before .before .before .before .before .before .before .before .before .before .before .before .before .pre .1 .1 .1 .2) in
-    let k = fill-node (c .before .before .before .before .before .before .before .before .before .before .before .before .before .before .args .times .now) (c .before .before .before .before .before .before .before .before .before .before .before .before .before .before .args .v) (c .before .before .before .before .before .before .before .before .before .before .before .before .before .before .args .start) (c .before .before .before .before .before .before .before .before .before .before .before .before .before .before .args .pins) (c .before .before .before .before .before .before .before .before .before .before .before .before .before .before .pre .1 .1 .0 .2) (c .before .before .before .before .before .before .before .before .before .before .before .before .before .before .pre .1 .1 .1 .0) (omega arith) in
-    filled-node (a .times .now) (a .v) (a .values .now) (set (a .values .now) (a .v - 1) (c .before .before .before .before .before .before .before .before .stored-value .result)) (c .before .before .before .before .before .before .fill .last .0) (c .before .before .fill2 .last .0)
-    (c .before .before .before .before .before .before .before .before .before .before .before .before .before .before .pre .1 .1 .0 .2) k (omega (arith, c .before .before .before .before .before .before .before .before .before .before .before .before .before .before .pre .1 .1 .0 .0)) (ap (set (a .values .now) (a .v - 1)) d) (c .before .before .before .before .before .before .fill .ensures) (c .before .before .fill2 .ensures)
+    let a = c .before .before .before .before .before .before .before .args in
+    let x : getD (c .before .before .before .before .before .before .before .args .times .now) (c .before .before .before .before .before .before .before .args .start + c .before .before .before .root-place .result - 1) 0 ≡ timeOf (c .before .before .before .before .before .before .before .args .times .now) (c .before .before .before .before .before .before .before .args .v) =
+    rw (c .before .before .before .root-place .ensures) (fill-time (c .before .before .before .before .before .before .before .args .times .now) (c .before .before .before .before .before .before .before .args .v) (c .before .before .before .before .before .before .before .args .start) (c .before .before .before .before .before .before .before .args .pins) (c .before .before .before .before .before .before .before .pre .1 .1 .0 .2) (c .before .before .before .before .before .before .before .pre .1 .1 .1 .0)) in
+    let d : c .before .stored-value .result ≡ stored (a .times .now) (a .v) = c .before .stored-value .ensures ∙ rw (x, c .before .before .before .before .before .before .before .pre .1 .1 .1 .2) in
+    let k = fill-node (c .before .before .before .before .before .before .before .args .times .now) (c .before .before .before .before .before .before .before .args .v) (c .before .before .before .before .before .before .before .args .start) (c .before .before .before .before .before .before .before .args .pins) (c .before .before .before .before .before .before .before .pre .1 .1 .0 .2) (c .before .before .before .before .before .before .before .pre .1 .1 .1 .0) (omega arith) in
+    filled-leaf (a .times .now) (a .v) (a .values .now) (set (a .values .now) (a .v - 1) (c .before .stored-value .result))
+    (c .before .before .before .before .before .before .before .pre .1 .1 .0 .2) k (omega (arith, c .before .before .before .before .before .before .before .pre .1 .1 .0 .0)) (ap (set (a .values .now) (a .v - 1)) d) (fill-leaf (c .before .before .before .before .before .before .before .args .times .now) (c .before .before .before .before .before .before .before .args .v) (c .before .before .before .before .before .before .before .args .start) (c .before .before .before .before .before .before .before .args .pins) (c .before .before .before .before .before .before .before .pre .1 .1 .0 .2) (c .before .before .before .before .before .before .before .pre .1 .1 .1 .0) (c .if2 .taken))
+
+sub-fill : (t : ℕ) → lts.Need-sub-fill (calls t) (given t) reads.Post
+sub-fill t c = omega (arith, place-in (c .before .before .before .before .before .before .before .before .args .pins) (omega arith))
+
+mul-fill : (t : ℕ) → lts.Need-mul-fill (calls t) (given t) reads.Post
+mul-fill t c = omega (arith, fill-node (c .before .before .before .before .before .before .before .before .args .times .now) (c .before .before .before .before .before .before .before .before .args .v) (c .before .before .before .before .before .before .before .before .args .start) (c .before .before .before .before .before .before .before .before .args .pins) (c .before .before .before .before .before .before .before .before .pre .1 .1 .0 .2) (c .before .before .before .before .before .before .before .before .pre .1 .1 .1 .0) (omega arith))
+
+fill-requires : (t : ℕ) → lts.Need-fill-requires (calls t) (given t) reads.Post
+fill-requires t c κs =
+    let a = c .before .before .before .before .before .before .before .before .args in
+    let x : getD (c .before .before .before .before .before .before .before .before .args .times .now) (c .before .before .before .before .before .before .before .before .args .start + c .before .before .before .before .root-place .result - 1) 0 ≡ timeOf (c .before .before .before .before .before .before .before .before .args .times .now) (c .before .before .before .before .before .before .before .before .args .v) =
+    rw (c .before .before .before .before .root-place .ensures) (fill-time (c .before .before .before .before .before .before .before .before .args .times .now) (c .before .before .before .before .before .before .before .before .args .v) (c .before .before .before .before .before .before .before .before .args .start) (c .before .before .before .before .before .before .before .before .args .pins) (c .before .before .before .before .before .before .before .before .pre .1 .1 .0 .2) (c .before .before .before .before .before .before .before .before .pre .1 .1 .1 .0)) in
+    let p = place-in (c .before .before .before .before .before .before .before .before .args .pins) (omega arith) in
+    (omega (arith, c .before .before .before .before .before .before .before .before .pre .0), (c .before .before .before .before .before .before .before .before .pre .1 .0, ((rw length-set (c .before .before .before .before .before .before .before .before .pre .1 .1 .0 .0), c .before .before .before .before .before .before .before .before .pre .1 .1 .0 .1, omega arith),
+    (rw (c .before .before .before .before .root-place .ensures) (is-left (length (c .before .before .before .before .before .before .before .before .args .times .now)) (c .before .before .before .before .before .before .before .before .args .v) (c .before .before .before .before .before .before .before .before .args .start) (c .before .before .before .before .before .before .before .before .args .pins) (c .before .before .before .before .before .before .before .before .pre .1 .1 .0 .2) (c .before .before .before .before .before .before .before .before .pre .1 .1 .1 .0)), omega arith, above-left (a .times .now) (a .v) (c .before .before .before .before .before .before .before .before .pre .1 .1 .0 .2) ∙ sym x))))
+
+add-fill : (t : ℕ) → lts.Need-add-fill (calls t) (given t) reads.Post
+add-fill t c = omega (arith, place-in (c .before .before .before .before .before .before .before .before .before .before .before .before .args .pins) (omega arith))
+
+sub-fill-2 : (t : ℕ) → lts.Need-sub-fill-2 (calls t) (given t) reads.Post
+sub-fill-2 t c = omega (arith, place-in (c .before .before .before .before .before .before .before .before .before .before .before .before .args .pins) (omega arith))
+
+mul-fill-2 : (t : ℕ) → lts.Need-mul-fill-2 (calls t) (given t) reads.Post
+mul-fill-2 t c = omega (arith, fill-node (c .before .before .before .before .before .before .before .before .before .before .before .before .args .times .now) (c .before .before .before .before .before .before .before .before .before .before .before .before .args .v) (c .before .before .before .before .before .before .before .before .before .before .before .before .args .start) (c .before .before .before .before .before .before .before .before .before .before .before .before .args .pins) (c .before .before .before .before .before .before .before .before .before .before .before .before .pre .1 .1 .0 .2) (c .before .before .before .before .before .before .before .before .before .before .before .before .pre .1 .1 .1 .0) (omega arith))
+
+add-fill-2 : (t : ℕ) → lts.Need-add-fill-2 (calls t) (given t) reads.Post
+add-fill-2 t c = omega (arith, fill-node (c .before .before .before .before .before .before .before .before .before .before .before .before .args .times .now) (c .before .before .before .before .before .before .before .before .before .before .before .before .args .v) (c .before .before .before .before .before .before .before .before .before .before .before .before .args .start) (c .before .before .before .before .before .before .before .before .before .before .before .before .args .pins) (c .before .before .before .before .before .before .before .before .before .before .before .before .pre .1 .1 .0 .2) (c .before .before .before .before .before .before .before .before .before .before .before .before .pre .1 .1 .1 .0) (omega arith))
+
+fill-requires-2 : (t : ℕ) → lts.Need-fill-requires-2 (calls t) (given t) reads.Post
+fill-requires-2 t c κs =
+    let a = c .before .before .before .before .before .before .before .before .before .before .before .before .args in
+    let x : getD (c .before .before .before .before .before .before .before .before .before .before .before .before .args .times .now) (c .before .before .before .before .before .before .before .before .before .before .before .before .args .start + c .before .before .before .before .before .before .before .before .root-place .result - 1) 0 ≡ timeOf (c .before .before .before .before .before .before .before .before .before .before .before .before .args .times .now) (c .before .before .before .before .before .before .before .before .before .before .before .before .args .v) =
+    rw (c .before .before .before .before .before .before .before .before .root-place .ensures) (fill-time (c .before .before .before .before .before .before .before .before .before .before .before .before .args .times .now) (c .before .before .before .before .before .before .before .before .before .before .before .before .args .v) (c .before .before .before .before .before .before .before .before .before .before .before .before .args .start) (c .before .before .before .before .before .before .before .before .before .before .before .before .args .pins) (c .before .before .before .before .before .before .before .before .before .before .before .before .pre .1 .1 .0 .2) (c .before .before .before .before .before .before .before .before .before .before .before .before .pre .1 .1 .1 .0)) in
+    let p = place-in (c .before .before .before .before .before .before .before .before .before .before .before .before .args .pins) (omega arith) in
+    let room : length (a .times .now) ≤ length (c .before .before .before .fill .last .0) = rw (c .before .before .before .fill .kept .0, length-set) (c .before .before .before .before .before .before .before .before .before .before .before .before .pre .1 .1 .0 .0) in
+    (omega (arith, c .before .before .before .before .before .before .before .before .before .before .before .before .pre .0), (c .before .before .before .before .before .before .before .before .before .before .before .before .pre .1 .0, ((room, c .before .before .before .before .before .before .before .before .before .before .before .before .pre .1 .1 .0 .1, omega arith),
+    (rw (c .before .before .before .before .before .before .before .before .root-place .ensures) (is-right (length (c .before .before .before .before .before .before .before .before .before .before .before .before .args .times .now)) (c .before .before .before .before .before .before .before .before .before .before .before .before .args .v) (c .before .before .before .before .before .before .before .before .before .before .before .before .args .start) (c .before .before .before .before .before .before .before .before .before .before .before .before .args .pins) (c .before .before .before .before .before .before .before .before .before .before .before .before .pre .1 .1 .0 .2) (c .before .before .before .before .before .before .before .before .before .before .before .before .pre .1 .1 .1 .0)), omega arith, above-right (a .times .now) (a .v) (c .before .before .before .before .before .before .before .before .before .before .before .before .pre .1 .1 .0 .2) ∙ sym x))))
+
+same-length-2 : (t : ℕ) → lts.Need-same-length-2 (calls t) (given t) reads.Post
+same-length-2 t c = c .before .before .fill2 .kept .0 ∙ c .before .before .before .before .before .before .fill .kept .0 ∙ length-set (c .before .before .before .before .before .before .before .before .before .before .before .before .before .before .before .args .values .now) (c .before .before .before .before .before .before .before .before .before .before .before .before .before .before .before .args .v - 1) (c .before .before .before .before .before .before .before .before .before .stored-value .result)
+
+returns-3 : (t : ℕ) → lts.Need-returns-3 (calls t) (given t) reads.Post
+unfolding stored
+returns-3 t c =
+    let a = c .before .before .before .before .before .before .before .before .before .before .before .before .before .before .before .args in
+    let x : getD (c .before .before .before .before .before .before .before .before .before .before .before .before .before .before .before .args .times .now) (c .before .before .before .before .before .before .before .before .before .before .before .before .before .before .before .args .start + c .before .before .before .before .before .before .before .before .before .before .before .root-place .result - 1) 0 ≡ timeOf (c .before .before .before .before .before .before .before .before .before .before .before .before .before .before .before .args .times .now) (c .before .before .before .before .before .before .before .before .before .before .before .before .before .before .before .args .v) =
+    rw (c .before .before .before .before .before .before .before .before .before .before .before .root-place .ensures) (fill-time (c .before .before .before .before .before .before .before .before .before .before .before .before .before .before .before .args .times .now) (c .before .before .before .before .before .before .before .before .before .before .before .before .before .before .before .args .v) (c .before .before .before .before .before .before .before .before .before .before .before .before .before .before .before .args .start) (c .before .before .before .before .before .before .before .before .before .before .before .before .before .before .before .args .pins) (c .before .before .before .before .before .before .before .before .before .before .before .before .before .before .before .pre .1 .1 .0 .2) (c .before .before .before .before .before .before .before .before .before .before .before .before .before .before .before .pre .1 .1 .1 .0)) in
+    let d : c .before .before .before .before .before .before .before .before .before .stored-value .result ≡ stored (a .times .now) (a .v) = c .before .before .before .before .before .before .before .before .before .stored-value .ensures ∙ rw (x, c .before .before .before .before .before .before .before .before .before .before .before .before .before .before .before .pre .1 .1 .1 .2) in
+    let k = fill-node (c .before .before .before .before .before .before .before .before .before .before .before .before .before .before .before .args .times .now) (c .before .before .before .before .before .before .before .before .before .before .before .before .before .before .before .args .v) (c .before .before .before .before .before .before .before .before .before .before .before .before .before .before .before .args .start) (c .before .before .before .before .before .before .before .before .before .before .before .before .before .before .before .args .pins) (c .before .before .before .before .before .before .before .before .before .before .before .before .before .before .before .pre .1 .1 .0 .2) (c .before .before .before .before .before .before .before .before .before .before .before .before .before .before .before .pre .1 .1 .1 .0) (omega arith) in
+    filled-node (a .times .now) (a .v) (a .values .now) (set (a .values .now) (a .v - 1) (c .before .before .before .before .before .before .before .before .before .stored-value .result)) (c .before .before .before .before .before .before .fill .last .0) (c .before .before .fill2 .last .0)
+    (c .before .before .before .before .before .before .before .before .before .before .before .before .before .before .before .pre .1 .1 .0 .2) k (omega (arith, c .before .before .before .before .before .before .before .before .before .before .before .before .before .before .before .pre .1 .1 .0 .0)) (ap (set (a .values .now) (a .v - 1)) d) (c .before .before .before .before .before .before .fill .ensures) (c .before .before .fill2 .ensures)
 
 pub +fill-spec : {M : Type 1} → statement M
 +fill-spec = close μ λ t. lts.spec (calls t)
@@ -134,6 +148,8 @@ pub +fill-spec : {M : Type 1} → statement M
     (sub-values t)
     (mul-values t)
     (slice-write-values t)
+    (same-length t)
+    (returns-2 t)
     (sub-fill t)
     (mul-fill t)
     (fill-requires t)
@@ -142,5 +158,5 @@ pub +fill-spec : {M : Type 1} → statement M
     (mul-fill-2 t)
     (add-fill-2 t)
     (fill-requires-2 t)
-    (same-length t)
-    (returns-2 t)
+    (same-length-2 t)
+    (returns-3 t)
