@@ -1,7 +1,6 @@
 -- The tree in the order of its ranks: under node v stand the ranks from a to b - 1, the node's own between those of its left and
 -- its right subtree. What follows about ranks and walks goes by this tree alone.
 use mathlib.Core.Path.{_≡_}
-use mathlib.Core.List.{List}
 use Prim.Native.Nat.{ℕ, zero, suc, _+_, _-_, _*_, _≤_, _<_}
 use native.Mathlib.Nat.{zero-add}
 use native.Mathlib.Decide.{decLt}

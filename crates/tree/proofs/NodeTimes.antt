@@ -1,5 +1,5 @@
 -- A node's time, from its parent's.
-use mathlib.Core.Path.{_≡_, refl}
+use mathlib.Core.Path.{_≡_}
 use Prim.Native.Nat.{ℕ, _/_, _≤_}
 use Rattle.codes.specs.Fetch.{Fetched}
 use Rattle.tree.specs.Times.{at, under, nodeTimeIn, nodeTime}

@@ -1,25 +1,24 @@
 -- The promises of specs/Promises.
-use mathlib.Core.Path.{_≡_, refl, sym, ap, _∙_}
-use mathlib.Core.Bool.{Bool, cond}
-use mathlib.Core.List.{List, [], _∷_}
-use Prim.Native.Nat.{ℕ, zero, suc, _-_, _^_, _≤_, _<_, min}
+use mathlib.Core.Path.{_≡_, sym, ap, _∙_}
+use mathlib.Core.List.{List}
+use Prim.Native.Nat.{ℕ, zero, suc, _-_, _^_, _≤_, min}
 use native.Mathlib.Nat.{le-refl}
 use native.Mathlib.Omega.{arith}
-use lib.Dec.{T, eqb, ltb}
-use lib.ListN.{length, getD}
+use lib.Dec.{eqb, ltb}
+use lib.ListN.{length}
 use lib.Pow.{pow-pos}
 use Rattle.tree.specs.declared.fetching.Levels.{Levels}
-use Rattle.tree.specs.Shape.{height, rank}
+use Rattle.tree.specs.Shape.{rank}
 use Rattle.tree.specs.Stored.{timeOf}
 use Rattle.tree.specs.Levels.{firstOf, levelOf, fetchedAt}
-use Rattle.tree.specs.Times.{Time, at, known, nodeTime}
-use Rattle.tree.specs.Walks.{walk, found, met, toward, lastOf, accessAnswer, never, lastLeft, searchAnswer, path}
+use Rattle.tree.specs.Times.{at, nodeTime}
+use Rattle.tree.specs.Walks.{toward, accessAnswer, searchAnswer}
 use Rattle.tree.specs.Promises.{HeightLeast, Shape, Held, Contents, SearchFinds, AccessOpens}
 use Rattle.tree.proofs.Heights.{digits, height-bound, height-le, height-is}
 use Rattle.tree.proofs.Stretches.{stretch-root, stretch-left, stretch-right, node-iff}
 use Rattle.tree.proofs.Inorder.{tree}
 use Rattle.tree.proofs.Ranks.{rank-lt, rank-found, rank-once}
-use Rattle.tree.proofs.Walks.{walk-length, walk-same, met-none}
+use Rattle.tree.proofs.Walks.{walk-length}
 use Rattle.tree.proofs.Paths.{toward-rank, fromRoot-length, access-answer, search-answer}
 use Rattle.tree.proofs.Contents.{times-back}
 use Rattle.tree.proofs.LevelValues.{fetched-stored}

@@ -16,7 +16,11 @@ fn stored_value(v: usize, above: u32, time: u32) -> u32
     requires { ⌜ (v % 2 ≡ 0 → time ≤ above) × (v % 2 ≡ 1 → above ≤ time) ⌝ }
     ensures { λ r. ⌜ r ≡ difference v above time ⌝ }
 {
-    if v % 2 == 0 { above - time } else { time - above }
+    if v % 2 == 0 {
+        above - time
+    } else {
+        time - above
+    }
 }
 
 // Fills the entries of node v, with the stretch of `pins` from `start` on under it, and of the nodes below it. The time of its

@@ -73,7 +73,14 @@ fn put_refusal(answer: &mut [usize], r: Refusal)
 }
 
 #[no_mangle]
-pub extern "C" fn tree_access(answer: &mut [usize], s: &[u8], codes: &[u8; 16], ends: &[usize; 17], pins: usize, i: usize)
+pub extern "C" fn tree_access(
+    answer: &mut [usize],
+    s: &[u8],
+    codes: &[u8; 16],
+    ends: &[usize; 17],
+    pins: usize,
+    i: usize,
+)
     requires { ⌜ length (now answer) ≡ 3 ⌝ }
     requires { ⌜ Fits (levelsAt pins (now codes) (now ends)) (now s) ⌝ }
     requires { ⌜ i < pins ⌝ }
@@ -92,7 +99,14 @@ pub extern "C" fn tree_access(answer: &mut [usize], s: &[u8], codes: &[u8; 16], 
 }
 
 #[no_mangle]
-pub extern "C" fn tree_search(answer: &mut [usize], s: &[u8], codes: &[u8; 16], ends: &[usize; 17], pins: usize, target: u32)
+pub extern "C" fn tree_search(
+    answer: &mut [usize],
+    s: &[u8],
+    codes: &[u8; 16],
+    ends: &[usize; 17],
+    pins: usize,
+    target: u32,
+)
     requires { ⌜ length (now answer) ≡ 3 ⌝ }
     requires { ⌜ Fits (levelsAt pins (now codes) (now ends)) (now s) ⌝ }
     ensures { λ r. ⌜ now (answer .exit) ≡ answerNumbers (searchAnswer pins (nodeTime (fetchedAt (levelsAt pins (now (codes .entry)) (now (ends .entry))) (now (s .entry)))) target) ⌝ }

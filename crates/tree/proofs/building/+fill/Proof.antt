@@ -94,9 +94,16 @@ fill-requires t c κs =
     let a = c .before .before .before .before .before .before .before .before .args in
     let x : getD (c .before .before .before .before .before .before .before .before .args .times .now) (c .before .before .before .before .before .before .before .before .args .start + c .before .before .before .before .root-place .result - 1) 0 ≡ timeOf (c .before .before .before .before .before .before .before .before .args .times .now) (c .before .before .before .before .before .before .before .before .args .v) =
     rw (c .before .before .before .before .root-place .ensures) (fill-time (c .before .before .before .before .before .before .before .before .args .times .now) (c .before .before .before .before .before .before .before .before .args .v) (c .before .before .before .before .before .before .before .before .args .start) (c .before .before .before .before .before .before .before .before .args .pins) (c .before .before .before .before .before .before .before .before .pre .1 .1 .0 .2) (c .before .before .before .before .before .before .before .before .pre .1 .1 .1 .0)) in
-    let p = place-in (c .before .before .before .before .before .before .before .before .args .pins) (omega arith) in
-    (omega (arith, c .before .before .before .before .before .before .before .before .pre .0), (c .before .before .before .before .before .before .before .before .pre .1 .0, ((rw length-set (c .before .before .before .before .before .before .before .before .pre .1 .1 .0 .0), c .before .before .before .before .before .before .before .before .pre .1 .1 .0 .1, omega arith),
-    (rw (c .before .before .before .before .root-place .ensures) (is-left (length (c .before .before .before .before .before .before .before .before .args .times .now)) (c .before .before .before .before .before .before .before .before .args .v) (c .before .before .before .before .before .before .before .before .args .start) (c .before .before .before .before .before .before .before .before .args .pins) (c .before .before .before .before .before .before .before .before .pre .1 .1 .0 .2) (c .before .before .before .before .before .before .before .before .pre .1 .1 .1 .0)), omega arith, above-left (a .times .now) (a .v) (c .before .before .before .before .before .before .before .before .pre .1 .1 .0 .2) ∙ sym x))))
+    let p = place-in (c .before .before .before .before .before .before .before .before .args .pins) (omega arith) in (
+      omega (arith, c .before .before .before .before .before .before .before .before .pre .0),
+      (
+        c .before .before .before .before .before .before .before .before .pre .1 .0,
+        (
+          (rw length-set (c .before .before .before .before .before .before .before .before .pre .1 .1 .0 .0), c .before .before .before .before .before .before .before .before .pre .1 .1 .0 .1, omega arith),
+          (rw (c .before .before .before .before .root-place .ensures) (is-left (length (c .before .before .before .before .before .before .before .before .args .times .now)) (c .before .before .before .before .before .before .before .before .args .v) (c .before .before .before .before .before .before .before .before .args .start) (c .before .before .before .before .before .before .before .before .args .pins) (c .before .before .before .before .before .before .before .before .pre .1 .1 .0 .2) (c .before .before .before .before .before .before .before .before .pre .1 .1 .1 .0)), omega arith, above-left (a .times .now) (a .v) (c .before .before .before .before .before .before .before .before .pre .1 .1 .0 .2) ∙ sym x),
+        ),
+      ),
+    )
 
 add-fill : (t : ℕ) → lts.Need-add-fill (calls t) (given t) reads.Post
 add-fill t c = omega (arith, place-in (c .before .before .before .before .before .before .before .before .before .before .before .before .args .pins) (omega arith))
@@ -116,9 +123,16 @@ fill-requires-2 t c κs =
     let x : getD (c .before .before .before .before .before .before .before .before .before .before .before .before .args .times .now) (c .before .before .before .before .before .before .before .before .before .before .before .before .args .start + c .before .before .before .before .before .before .before .before .root-place .result - 1) 0 ≡ timeOf (c .before .before .before .before .before .before .before .before .before .before .before .before .args .times .now) (c .before .before .before .before .before .before .before .before .before .before .before .before .args .v) =
     rw (c .before .before .before .before .before .before .before .before .root-place .ensures) (fill-time (c .before .before .before .before .before .before .before .before .before .before .before .before .args .times .now) (c .before .before .before .before .before .before .before .before .before .before .before .before .args .v) (c .before .before .before .before .before .before .before .before .before .before .before .before .args .start) (c .before .before .before .before .before .before .before .before .before .before .before .before .args .pins) (c .before .before .before .before .before .before .before .before .before .before .before .before .pre .1 .1 .0 .2) (c .before .before .before .before .before .before .before .before .before .before .before .before .pre .1 .1 .1 .0)) in
     let p = place-in (c .before .before .before .before .before .before .before .before .before .before .before .before .args .pins) (omega arith) in
-    let room : length (a .times .now) ≤ length (c .before .before .before .fill .last .0) = rw (c .before .before .before .fill .kept .0, length-set) (c .before .before .before .before .before .before .before .before .before .before .before .before .pre .1 .1 .0 .0) in
-    (omega (arith, c .before .before .before .before .before .before .before .before .before .before .before .before .pre .0), (c .before .before .before .before .before .before .before .before .before .before .before .before .pre .1 .0, ((room, c .before .before .before .before .before .before .before .before .before .before .before .before .pre .1 .1 .0 .1, omega arith),
-    (rw (c .before .before .before .before .before .before .before .before .root-place .ensures) (is-right (length (c .before .before .before .before .before .before .before .before .before .before .before .before .args .times .now)) (c .before .before .before .before .before .before .before .before .before .before .before .before .args .v) (c .before .before .before .before .before .before .before .before .before .before .before .before .args .start) (c .before .before .before .before .before .before .before .before .before .before .before .before .args .pins) (c .before .before .before .before .before .before .before .before .before .before .before .before .pre .1 .1 .0 .2) (c .before .before .before .before .before .before .before .before .before .before .before .before .pre .1 .1 .1 .0)), omega arith, above-right (a .times .now) (a .v) (c .before .before .before .before .before .before .before .before .before .before .before .before .pre .1 .1 .0 .2) ∙ sym x))))
+    let room : length (a .times .now) ≤ length (c .before .before .before .fill .last .0) = rw (c .before .before .before .fill .kept .0, length-set) (c .before .before .before .before .before .before .before .before .before .before .before .before .pre .1 .1 .0 .0) in (
+      omega (arith, c .before .before .before .before .before .before .before .before .before .before .before .before .pre .0),
+      (
+        c .before .before .before .before .before .before .before .before .before .before .before .before .pre .1 .0,
+        (
+          (room, c .before .before .before .before .before .before .before .before .before .before .before .before .pre .1 .1 .0 .1, omega arith),
+          (rw (c .before .before .before .before .before .before .before .before .root-place .ensures) (is-right (length (c .before .before .before .before .before .before .before .before .before .before .before .before .args .times .now)) (c .before .before .before .before .before .before .before .before .before .before .before .before .args .v) (c .before .before .before .before .before .before .before .before .before .before .before .before .args .start) (c .before .before .before .before .before .before .before .before .before .before .before .before .args .pins) (c .before .before .before .before .before .before .before .before .before .before .before .before .pre .1 .1 .0 .2) (c .before .before .before .before .before .before .before .before .before .before .before .before .pre .1 .1 .1 .0)), omega arith, above-right (a .times .now) (a .v) (c .before .before .before .before .before .before .before .before .before .before .before .before .pre .1 .1 .0 .2) ∙ sym x),
+        ),
+      ),
+    )
 
 same-length-2 : (t : ℕ) → lts.Need-same-length-2 (calls t) (given t) reads.Post
 same-length-2 t c = c .before .before .fill2 .kept .0 ∙ c .before .before .before .before .before .before .fill .kept .0 ∙ length-set (c .before .before .before .before .before .before .before .before .before .before .before .before .before .before .before .args .values .now) (c .before .before .before .before .before .before .before .before .before .before .before .before .before .before .before .args .v - 1) (c .before .before .before .before .before .before .before .before .before .stored-value .result)

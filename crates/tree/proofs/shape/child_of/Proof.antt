@@ -1,5 +1,4 @@
 -- `child_of` meets its contract.
-use native.Mathlib.Omega.{arith}
 use Rattle.tree.specs.Shape.{childOf}
 use borrow.Author.Needs.{needs}
 use Rattle.tree.proofs.shape.child_of.Statement.{statement}

@@ -1,5 +1,4 @@
 -- `height` meets its contract.
-use mathlib.Core.Path.{sym, _∙_}
 use native.Mathlib.Omega.{arith}
 use lib.Count.{leading-le, leading-length}
 use borrow.Author.Needs.{needs}

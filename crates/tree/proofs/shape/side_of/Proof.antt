@@ -1,5 +1,4 @@
 -- `side_of` meets its contract.
-use native.Mathlib.Omega.{arith}
 use borrow.Author.Needs.{needs}
 use Rattle.tree.proofs.shape.side_of.Statement.{statement}
 use Rattle.tree.proofs.shape.side_of.Tie as tie
