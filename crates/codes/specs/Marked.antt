@@ -1,6 +1,6 @@
 -- Levels with the parts that they must have, computed. The first three are those of list A, marked in 01, of which the third ties at
 -- 15 bits for b = 2 and b = 4. The next is that of the list 0. The last ties at 12 bits for width 3 and b = 1.
-use mathlib.Core.Bool.{Bool, true, false, cond}
+use mathlib.Core.Bool.{Bool, true, false, _&&_}
 use mathlib.Core.Path.{_≡_, refl}
 use mathlib.Core.List.{List, [], _∷_}
 use Prim.Native.Nat.{ℕ, _+_}
@@ -26,14 +26,11 @@ marked =
     ∷ record { values = 7 ∷ 0 ∷ 0 ∷ 0 ∷ []; code = 3; bytes = 0xe0 ∷ 0x00 ∷ [] }
     ∷ []
 
-abbrev and : Bool → Bool → Bool
-and a b = cond a b false
-
-abbrev same : List ℕ → List ℕ → Bool
+abbrev pub same : List ℕ → List ℕ → Bool
 same [] [] = true
 same [] (y ∷ ys) = false
 same (x ∷ xs) [] = false
-same (x ∷ xs) (y ∷ ys) = and (eqb x y) (same xs ys)
+same (x ∷ xs) (y ∷ ys) = eqb x y && same xs ys
 
 abbrev is : ℕ → Fetched → Bool
 is v (value x) = eqb x v
@@ -42,15 +39,15 @@ is v outside = false
 -- a fetch gives each of the values back, from number j on
 abbrev back : Level → ℕ → List ℕ → Bool
 back l j [] = true
-back l j (v ∷ vs) = and (is v (fetched (l .code) (length (l .values)) j (l .bytes))) (back l (j + 1) vs)
+back l j (v ∷ vs) = is v (fetched (l .code) (length (l .values)) j (l .bytes)) && back l (j + 1) vs
 
 -- pack chooses the code, and writes the bytes, and a fetch reads them
 abbrev passes : Level → Bool
-passes l = and (eqb (chosen (l .values) .code) (l .code)) (and (same (part (l .code) (l .values)) (l .bytes)) (back l 0 (l .values)))
+passes l = eqb (chosen (l .values) .code) (l .code) && same (part (l .code) (l .values)) (l .bytes) && back l 0 (l .values)
 
 abbrev all : List Level → Bool
 all [] = true
-all (l ∷ ls) = and (passes l) (all ls)
+all (l ∷ ls) = passes l && all ls
 
 pub marked-pass : all marked ≡ true
 unfolding bits number sum fixed bytesOf padded kindOf rest layers kindBits widthIn widest bestChunked chosen fixedAt fetchLayers chunkedAt fetched

@@ -12,7 +12,7 @@ use Rattle.tree.specs.Shape.{rootPlace, StretchIs}
 use Rattle.tree.specs.Stored.{timeOf, timeAbove, stored, storedValues}
 use Rattle.tree.specs.Filled.{Under, here, in-left, in-right, Correct, Filled}
 use Rattle.tree.proofs.Heights.{place-small}
-use Rattle.tree.proofs.Stretches.{pins-of-node, no-pins, is-left, rank-is}
+use Rattle.tree.proofs.Stretches.{node-of-pins, past-nodes, is-left, rank-is}
 use Rattle.tree.proofs.Contents.{above-child}
 use Rattle.tree.proofs.LevelValues.{length-stored, getD-stored}
 use Rattle.tree.proofs.Ranks.{under-root, under-out}
@@ -96,10 +96,10 @@ module _ (xs : List ℕ) where
 
 module _ (xs : List ℕ) (v start pins : ℕ) (one : 1 ≤ v) (e : StretchIs (length xs) v start pins) where
   pub fill-past : pins ≡ 0 → length xs < v
-  fill-past z = elim (decLt (length xs) v) [ yes h ↦ h | no h ↦ absurd (omega (arith, e .1, pins-of-node (length xs) v one (omega arith))) ]
+  fill-past z = past-nodes (length xs) v one (e .1 ∙ z)
 
   pub fill-node : 1 ≤ pins → v ≤ length xs
-  fill-node h = elim (decLt (length xs) v) [ yes k ↦ absurd (omega (arith, e .1, no-pins (length xs) v k)) | no k ↦ omega arith ]
+  fill-node h = node-of-pins (length xs) v (rw (e .1) h)
 
   pub fill-time : getD xs (start + rootPlace pins - 1) 0 ≡ timeOf xs v
   unfolding timeOf

@@ -1,16 +1,16 @@
--- Laws that belong to no one function, each file about what its name says.
-pub mod Heights
-pub mod NodeTimes
-pub mod Stretches
-pub mod NodeFetches
-pub mod Walks
-pub mod Steps
-pub mod Orders
-pub mod Inorder
-pub mod Ranks
+-- Laws that belong to no one function, each file about what its name says; Promises proves what specs/Promises states.
 pub mod Contents
-pub mod LevelValues
 pub mod Fills
+pub mod Heights
+pub mod Inorder
+pub mod LevelValues
+pub mod NodeFetches
+pub mod NodeTimes
+pub mod Orders
 pub mod Paths
 pub mod Promises
+pub mod Ranks
 pub mod Shifts
+pub mod Steps
+pub mod Stretches
+pub mod Walks

@@ -13,11 +13,11 @@ use Rattle.tree.specs.Shape.{height, childOf, rank}
 use Rattle.tree.specs.Lists.{ordered, smaller}
 use Rattle.tree.specs.Stored.{timeOf}
 use Rattle.tree.specs.Times.{Time, at, known}
-use Rattle.tree.specs.Walks.{walk, found, toward, lastOf, accessAnswer, never, lastLeft, searchAnswer, path, fromRootIn, fromRoot}
+use Rattle.tree.specs.Walks.{walk, found, towardFrom, toward, lastOf, accessAnswer, never, lastLeft, searchNodes, searchAnswer, path, fromRootIn, fromRoot}
 use Rattle.tree.specs.Filled.{Under, here, in-left, in-right}
 use Rattle.tree.proofs.Heights.{height-zero, height-step}
 use Rattle.tree.proofs.Orders.{smaller-le, smaller-first}
-use Rattle.tree.proofs.Walks.{walk-out, walk-on, walk-same, met-none}
+use Rattle.tree.proofs.Walks.{walk-out, walk-on, toward-on, walk-same, met-none}
 use Rattle.tree.proofs.Inorder.{Tree, out, node, tree}
 use Rattle.tree.proofs.Ranks.{under-root, under-rank, under-out, rank-lt, rank-found}
 
@@ -30,18 +30,18 @@ steps {w} (in-left x) = w ∷ steps x
 steps {w} (in-right x) = w ∷ steps x
 
 toward-under : (n v : ℕ) {w a b : ℕ} → v ≤ n → Tree n w a b → (x : Under w v)
-    → walk n (λ u. eqb (rank n u) (rank n v)) (λ u. ltb (rank n u) (rank n v)) w ≡ steps x
+    → towardFrom n (rank n v) w ≡ steps x
 unfolding steps childOf
 toward-under n v k (out h e) x = absurd (omega (arith, under-out n x h))
 toward-under n v {w} k (node h l a b) (here e) =
-    walk-on n (λ u. eqb (rank n u) (rank n v)) (λ u. ltb (rank n u) (rank n v)) w h l ∙ rw (eq-eqb (rank n w) (rank n v) (ap (rank n) e))
+    toward-on n (rank n v) w h l ∙ rw (eq-eqb (rank n w) (rank n v) (ap (rank n) e))
 toward-under n v {w} k (node h l a b) (in-left x) =
     let r = under-rank a x k in
-    walk-on n (λ u. eqb (rank n u) (rank n v)) (λ u. ltb (rank n u) (rank n v)) w h l
+    toward-on n (rank n v) w h l
     ∙ rw (ne-eqb (rank n w) (rank n v) (omega arith), le-ltb (rank n w) (rank n v) (omega arith)) (ap (λ (us : List ℕ). w ∷ us) (toward-under n v k a x))
 toward-under n v {w} k (node h l a b) (in-right x) =
     let r = under-rank b x k in
-    walk-on n (λ u. eqb (rank n u) (rank n v)) (λ u. ltb (rank n u) (rank n v)) w h l
+    toward-on n (rank n v) w h l
     ∙ rw (ne-eqb (rank n w) (rank n v) (omega arith), lt-ltb (rank n w) (rank n v) (omega arith)) (ap (λ (us : List ℕ). w ∷ us) (toward-under n v k b x))
 
 -- one node on each level
@@ -113,6 +113,9 @@ cuts-below xs t o v h k = smaller-first t xs o (rank (length xs) v) (rank-lt (le
 -- ---- the answers, where no node's time is refused
 
 module _ (xs : List ℕ) (time : ℕ → Time) (fine : (v : ℕ) → 1 ≤ v → v ≤ length xs → time v ≡ at (timeOf xs v)) where
+  past-same : (t v : ℕ) → 1 ≤ v → v ≤ length xs → ltb (known (time v)) t ≡ ltb (timeOf xs v) t
+  past-same t v h k = ap (λ (x : Time). ltb (known x) t) (fine v h k)
+
   -- the last node on the way to rank i is the one of that rank
   pub access-answer : (i : ℕ) → i < length xs → accessAnswer (length xs) time i ≡ found (getD xs i 0) (length (toward (length xs) i))
   unfolding accessAnswer toward timeOf
@@ -124,15 +127,17 @@ module _ (xs : List ℕ) (time : ℕ → Time) (fine : (v : ℕ) → 1 ≤ v →
       met-none n time (timeOf xs) fine (found (known (time (lastOf 0 (toward n i)))) (length (toward n i))) (λ u. eqb (rank n u) i) (λ u. ltb (rank n u) i) 1 (le-refl 1)
       ∙ ap (λ (y : ℕ). found y (length (toward n i))) x
 
+  pub search-path : (t : ℕ) → searchNodes (length xs) time t ≡ path xs t
+  unfolding path
+  search-path t = walk-same (length xs) never (λ v. ltb (known (time v)) t) (λ v. ltb (timeOf xs v) t) (past-same t) 1 (le-refl 1)
+
   -- the position is the number of smaller times
   pub search-answer : T (ordered xs) → (t : ℕ) → searchAnswer (length xs) time t ≡ found (smaller t xs) (length (path xs t))
-  unfolding searchAnswer path
+  unfolding searchAnswer
   search-answer o t =
       let n = length xs in
       let past : ℕ → Bool = λ v. ltb (known (time v)) t in
-      let same : (v : ℕ) → 1 ≤ v → v ≤ n → past v ≡ ltb (timeOf xs v) t = λ v h k. ap (λ (x : Time). ltb (known x) t) (fine v h k) in
-      let nodes = walk n never past 1 in
+      let nodes = searchNodes n time t in
       let p : lastLeft n past n nodes ≡ smaller t xs =
-      search-under n past (smaller t xs) (λ v h k. same v h k ∙ cuts-below xs t o v h k) (tree n) (omega arith) (smaller-le t xs) in
-      met-none n time (timeOf xs) fine (found (lastLeft n past n nodes) (length nodes)) never past 1 (le-refl 1)
-      ∙ ap₂ found p (ap length (walk-same n never past (λ v. ltb (timeOf xs v) t) same 1 (le-refl 1)))
+      search-under n past (smaller t xs) (λ v h k. past-same t v h k ∙ cuts-below xs t o v h k) (tree n) (omega arith) (smaller-le t xs) in
+      met-none n time (timeOf xs) fine (found (lastLeft n past n nodes) (length nodes)) never past 1 (le-refl 1) ∙ ap₂ found p (ap length (search-path t))

@@ -12,14 +12,14 @@ use Rattle.tree.specs.Shape.{rank}
 use Rattle.tree.specs.Stored.{timeOf}
 use Rattle.tree.specs.Levels.{firstOf, levelOf, fetchedAt}
 use Rattle.tree.specs.Times.{at, nodeTime}
-use Rattle.tree.specs.Walks.{toward, accessAnswer, searchAnswer}
+use Rattle.tree.specs.Walks.{toward, accessAnswer, searchNodes, searchAnswer}
 use Rattle.tree.specs.Promises.{HeightLeast, Shape, Held, Contents, SearchFinds, AccessOpens}
 use Rattle.tree.proofs.Heights.{digits, height-bound, height-le, height-is}
 use Rattle.tree.proofs.Stretches.{stretch-root, stretch-left, stretch-right, node-iff}
 use Rattle.tree.proofs.Inorder.{tree}
 use Rattle.tree.proofs.Ranks.{rank-lt, rank-found, rank-once}
 use Rattle.tree.proofs.Walks.{walk-length}
-use Rattle.tree.proofs.Paths.{toward-rank, fromRoot-length, access-answer, search-answer}
+use Rattle.tree.proofs.Paths.{toward-rank, fromRoot-length, access-answer, search-path, search-answer}
 use Rattle.tree.proofs.Contents.{times-back}
 use Rattle.tree.proofs.LevelValues.{fetched-stored}
 
@@ -72,9 +72,14 @@ contents = record {
 }
 
 pub search-finds : SearchFinds
-search-finds levels s xs held t =
-    ap (λ (n : ℕ). searchAnswer n (nodeTime (fetchedAt levels s)) t) (held .stores .pins-are)
-    ∙ search-answer xs (nodeTime (fetchedAt levels s)) (node-times levels s xs held) (held .in-order) t
+search-finds = record {
+  nodes = λ levels s xs held t.
+      ap (λ (n : ℕ). searchNodes n (nodeTime (fetchedAt levels s)) t) (held .stores .pins-are)
+      ∙ search-path xs (nodeTime (fetchedAt levels s)) (node-times levels s xs held) t;
+  answer = λ levels s xs held t.
+      ap (λ (n : ℕ). searchAnswer n (nodeTime (fetchedAt levels s)) t) (held .stores .pins-are)
+      ∙ search-answer xs (nodeTime (fetchedAt levels s)) (node-times levels s xs held) (held .in-order) t;
+}
 
 pub access-opens : AccessOpens
 unfolding toward

@@ -7,7 +7,7 @@ use native.Mathlib.Nat.{zero-add, le-refl}
 use native.Mathlib.Numerals.{add-one}
 use native.Mathlib.Decide.{decLt}
 use native.Mathlib.Omega.{arith}
-use lib.Dec.{eqb, ltb}
+use lib.Dec.{ltb}
 use lib.ListN.{length}
 use borrow.Author.Tests.{lt-ltb, le-ltb, eq-eqb, ne-eqb}
 use Rattle.tree.specs.declared.shape.Stretch.{Stretch}
@@ -15,11 +15,11 @@ use Rattle.tree.specs.declared.fetching.Levels.{Levels}
 use Rattle.tree.specs.Shape.{rootPlace, childOf, sideOf, stretch, rank}
 use Rattle.tree.specs.Levels.{fetchedAt}
 use Rattle.tree.specs.Times.{Time, at, refused, known, nodeTime}
-use Rattle.tree.specs.Walks.{walk, Answer, found, stopped, met, toward, lastOf, accessAnswer, never, lastLeft, searchAnswer}
+use Rattle.tree.specs.Walks.{walk, Answer, found, stopped, met, towardFrom, toward, lastOf, accessAnswer, never, lastLeft, searchAnswer}
 use Rattle.tree.proofs.Heights.{place-in}
-use Rattle.tree.proofs.Stretches.{stretch-root, stretch-child, side-in, pins-of-node, no-pins}
+use Rattle.tree.proofs.Stretches.{stretch-root, stretch-child, side-in, pins-of-node, node-of-pins}
 use Rattle.tree.proofs.NodeTimes.{time-above}
-use Rattle.tree.proofs.Walks.{child-bounds, parent-of, walk-out, walk-on, met-fine, met-refused}
+use Rattle.tree.proofs.Walks.{child-bounds, parent-of, walk-out, walk-on, toward-on, met-fine, met-refused}
 
 -- ---- where a walk stands
 
@@ -47,7 +47,7 @@ module _ {levels : Levels} {s : List ℕ} {v depth : ℕ} {here : Stretch} {abov
   stands-pins k = rw (w .under) at (pins-of-node (levels .pins) v (w .one) k)
 
   pub stands-node : 1 ≤ here .pins → v ≤ levels .pins
-  stands-node h = elim (decLt (levels .pins) v) [ yes k ↦ absurd (omega (arith, rw (w .under) at (no-pins (levels .pins) v k))) | no k ↦ omega arith ]
+  stands-node h = node-of-pins (levels .pins) v (rw (w .under) h)
 
   pub stands-place : v ≤ levels .pins → (1 ≤ rootPlace (here .pins)) × (rootPlace (here .pins) ≤ here .pins)
   stands-place k = place-in (here .pins) (stands-pins k)
@@ -119,7 +119,7 @@ side-holds s i r e lo hi ne =
 -- what an access at i answers that goes on from node v, with k nodes opened
 abbrev pub accessFrom : ℕ → (ℕ → Time) → ℕ → ℕ → ℕ → Answer
 accessFrom n time i k v =
-    let nodes = walk n (λ u. eqb (rank n u) i) (λ u. ltb (rank n u) i) v in
+    let nodes = towardFrom n i v in
     met time (found (known (time (lastOf (v / 2) nodes))) (k + length nodes)) nodes
 
 module _ (n : ℕ) (time : ℕ → Time) (i : ℕ) where
@@ -128,19 +128,19 @@ module _ (n : ℕ) (time : ℕ → Time) (i : ℕ) where
   access-start = rw zero-add
 
   pub access-refused : (k v r u : ℕ) → 1 ≤ v → v ≤ n → time v ≡ refused r u → accessFrom n time i k v ≡ stopped r u
-  access-refused k v r u h l e = rw (walk-on n (λ u. eqb (rank n u) i) (λ u. ltb (rank n u) i) v h l) (met-refused time _ v r u _ e)
+  access-refused k v r u h l e = rw (toward-on n i v h l) (met-refused time _ v r u _ e)
 
   pub access-end : (k v x : ℕ) → 1 ≤ v → v ≤ n → time v ≡ at x → rank n v ≡ i → accessFrom n time i k v ≡ found x (k + 1)
   unfolding lastOf met
   access-end k v x h l e r =
-      rw (walk-on n (λ u. eqb (rank n u) i) (λ u. ltb (rank n u) i) v h l, eq-eqb (rank n v) i r, e)
+      rw (toward-on n i v h l, eq-eqb (rank n v) i r, e)
 
   pub access-step : (k v x : ℕ) → 1 ≤ v → v ≤ n → time v ≡ at x → (rank n v ≡ i → ⊥)
       → accessFrom n time i k v ≡ accessFrom n time i (k + 1) (childOf (ltb (rank n v) i) v)
   unfolding lastOf
   access-step k v x h l e r =
       let u = childOf (ltb (rank n v) i) v in
-      let nodes = walk n (λ u. eqb (rank n u) i) (λ u. ltb (rank n u) i) u in
+      let nodes = towardFrom n i u in
       let j : k + suc (length nodes) ≡ k + 1 + length nodes = omega arith in
-      rw (walk-on n (λ u. eqb (rank n u) i) (λ u. ltb (rank n u) i) v h l, ne-eqb (rank n v) i r)
+      rw (toward-on n i v h l, ne-eqb (rank n v) i r)
       (met-fine time _ v x nodes e ∙ rw (j, parent-of (ltb (rank n v) i) v))

@@ -156,8 +156,14 @@ no-pins (suc n) v b = let m = digits (suc n) (omega arith) in go (m .top) (m .le
     go j lo hi (no h) =
         pins-under (suc n) (2 ^ j) (pow-pos j) (λ u x y. omega (arith, pins-last (suc n) j lo hi u x (omega arith))) v v (le-refl v) (omega arith)
 
+pub node-of-pins : (n v : ℕ) → 1 ≤ stretch n v .pins → v ≤ n
+node-of-pins n v h = elim (decLt n v) [ yes k ↦ absurd (omega (arith, no-pins n v k)) | no k ↦ omega arith ]
+
+pub past-nodes : (n v : ℕ) → 1 ≤ v → stretch n v .pins ≡ 0 → n < v
+past-nodes n v h e = elim (decLt n v) [ yes k ↦ k | no k ↦ absurd (omega (arith, pins-of-node n v h (omega arith))) ]
+
 pub node-iff : (n v : ℕ) → 1 ≤ v → (v ≤ n) ↔ (stretch n v .pins ≢ 0)
-node-iff n v b = (λ h. omega (arith, pins-of-node n v b h), λ h. elim (decLt n v) [ yes k ↦ absurd (h (no-pins n v k)) | no k ↦ omega arith ])
+node-iff n v b = (λ h. omega (arith, pins-of-node n v b h), λ h. node-of-pins n v (omega arith))
 
 -- ---- a node's rank in its stretch
 

@@ -5,12 +5,12 @@ use mathlib.Core.List.{List, [], _∷_}
 use Prim.Native.Nat.{ℕ, zero, suc, _+_, _-_, _*_, _/_, _≤_, _<_}
 use native.Mathlib.Decide.{decLt}
 use native.Mathlib.Omega.{arith}
-use lib.Dec.{ltb}
+use lib.Dec.{eqb, ltb}
 use lib.ListN.{length}
 use borrow.Author.Tests.{lt-ltb, le-ltb}
-use Rattle.tree.specs.Shape.{height, childOf}
+use Rattle.tree.specs.Shape.{height, childOf, rank}
 use Rattle.tree.specs.Times.{Time, at, refused}
-use Rattle.tree.specs.Walks.{walkIn, walk, Answer, stopped, met}
+use Rattle.tree.specs.Walks.{walkIn, walk, Answer, stopped, met, towardFrom}
 use Rattle.tree.proofs.Heights.{height-step, height-mono, height-above}
 
 pub child-bounds : (right : Bool) (v : ℕ) → (2 * v ≤ childOf right v) × (childOf right v ≤ 2 * v + 1)
@@ -58,6 +58,9 @@ module _ (n : ℕ) (stop past : ℕ → Bool) where
   pub walk-length : (v : ℕ) → 1 ≤ v → length (walk n stop past v) ≤ height n
   unfolding walk
   walk-length v h = omega (arith, walkIn-length (suc (height n) - height v) v, height-above v 0 h)
+
+pub toward-on : (n i v : ℕ) → 1 ≤ v → v ≤ n → towardFrom n i v ≡ v ∷ cond (eqb (rank n v) i) [] (towardFrom n i (childOf (ltb (rank n v) i) v))
+toward-on n i v h k = walk-on n (λ u. eqb (rank n u) i) (λ u. ltb (rank n u) i) v h k
 
 -- ---- the first refusal
 

@@ -1,18 +1,19 @@
 -- Calls with the answers that they must have, computed. Strip A and the cases 3, 4, 5, 7 and 9 are those marked in 01; the two
 -- refusals are its examples of 9 and 10.
-use mathlib.Core.Bool.{Bool, true, false, cond}
+use mathlib.Core.Bool.{Bool, true, false, _&&_}
 use mathlib.Core.Path.{_≡_, refl}
 use mathlib.Core.List.{List, [], _∷_}
 use Prim.Native.Nat.{ℕ}
 use lib.Dec.{eqb}
 use Rattle.codes.specs.Bits.{bits, number, sum, fixed}
 use Rattle.codes.specs.Codes.{kindOf}
+use Rattle.codes.specs.Marked.{same}
 use Rattle.codes.specs.Fetch.{fixedAt, fetchLayers, chunkedAt, fetched}
 use Rattle.tree.specs.declared.fetching.Levels.{Levels}
 use Rattle.tree.specs.Shape.{heightIn, height, rootPlace, childOf, stretchIn, stretch, rank}
 use Rattle.tree.specs.Stored.{timeOf, timeAbove, stored, storedFrom, storedValues}
 use Rattle.tree.specs.Levels.{partOf, fetchedAt}
-use Rattle.tree.specs.Times.{nodeTimeIn, nodeTime}
+use Rattle.tree.specs.Times.{Time, nodeTimeIn, nodeTime}
 use Rattle.tree.specs.Walks.{walkIn, walk, Answer, found, stopped, met, toward, lastOf, accessAnswer, lastLeft, searchAnswer}
 
 -- levels in the bytes of a strip
@@ -57,22 +58,13 @@ marked =
     ∷ accesses cut 0 (stopped 9 1) ∷ searches cut 0 (stopped 9 1) ∷ accesses low 0 (stopped 10 2) ∷ searches low 0 (stopped 10 2)
     ∷ []
 
-abbrev and : Bool → Bool → Bool
-and x y = cond x y false
-
-abbrev same : List ℕ → List ℕ → Bool
-same [] [] = true
-same [] (y ∷ ys) = false
-same (x ∷ xs) [] = false
-same (x ∷ xs) (y ∷ ys) = and (eqb x y) (same xs ys)
-
 abbrev is : Answer → Answer → Bool
-is (found x k) (found y l) = and (eqb x y) (eqb k l)
+is (found x k) (found y l) = eqb x y && eqb k l
 is (found x k) (stopped r u) = false
 is (stopped r u) (found x k) = false
-is (stopped r u) (stopped s v) = and (eqb r s) (eqb u v)
+is (stopped r u) (stopped s v) = eqb r s && eqb u v
 
-abbrev times : Tree → ℕ → Rattle.tree.specs.Times.Time
+abbrev times : Tree → ℕ → Time
 times t = nodeTime (fetchedAt (t .levels) (t .bytes))
 
 abbrev passes : Case → Bool
@@ -83,7 +75,7 @@ passes (searches t y x) = is (searchAnswer (t .levels .pins) (times t) y) x
 
 abbrev all : List Case → Bool
 all [] = true
-all (c ∷ cs) = and (passes c) (all cs)
+all (c ∷ cs) = passes c && all cs
 
 pub marked-pass : all marked ≡ true
 unfolding bits number sum fixed kindOf fixedAt fetchLayers chunkedAt fetched heightIn height rootPlace childOf stretchIn stretch rank timeOf timeAbove stored

@@ -14,7 +14,7 @@ use Rattle.tree.specs.Lists.{ordered, smaller}
 use Rattle.tree.specs.Stored.{timeOf}
 use Rattle.tree.specs.Levels.{firstOf, levelOf, fetchedAt, Stores}
 use Rattle.tree.specs.Times.{at, nodeTime}
-use Rattle.tree.specs.Walks.{walk, found, toward, accessAnswer, searchAnswer, path, fromRoot}
+use Rattle.tree.specs.Walks.{walk, found, toward, accessAnswer, searchNodes, searchAnswer, path, fromRoot}
 
 -- The height is the least number with 2 ^ h - 1 ≥ n.
 pub record HeightLeast : Type 0 where
@@ -52,10 +52,13 @@ pub record Contents : Type 0 where
   pub access : (levels : Levels) (s xs : List ℕ) → Held levels s xs → (i : ℕ) → i < length xs
       → accessAnswer (levels .pins) (nodeTime (fetchedAt levels s)) i ≡ found (getD xs i 0) (length (toward (length xs) i))
 
--- 3. A search gives the number of times smaller than its target, so the first pin of a chord, and opens its path, to the end.
-abbrev pub SearchFinds : Type 0
-SearchFinds = (levels : Levels) (s xs : List ℕ) → Held levels s xs → (t : ℕ)
-    → searchAnswer (levels .pins) (nodeTime (fetchedAt levels s)) t ≡ found (smaller t xs) (length (path xs t))
+-- 3. A search gives the number of times smaller than its target, so the first pin of a chord. It opens the nodes of its path, which
+-- goes on after an equal time, and counts them. Nothing is refused.
+pub record SearchFinds : Type 0 where
+  pub nodes : (levels : Levels) (s xs : List ℕ) → Held levels s xs → (t : ℕ)
+      → searchNodes (levels .pins) (nodeTime (fetchedAt levels s)) t ≡ path xs t
+  pub answer : (levels : Levels) (s xs : List ℕ) → Held levels s xs → (t : ℕ)
+      → searchAnswer (levels .pins) (nodeTime (fetchedAt levels s)) t ≡ found (smaller t xs) (length (path xs t))
 
 -- 4. An access at i opens the nodes from the root to the one of rank i, at most the height.
 pub record AccessOpens : Type 0 where

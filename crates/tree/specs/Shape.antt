@@ -44,6 +44,7 @@ stretchIn (suc f) n v =
 unfoldable pub stretch : ℕ → ℕ → Stretch
 stretch n v = stretchIn (height v) n v
 
+-- the stretch of node v has `pins` from `start` on
 abbrev pub StretchIs : ℕ → ℕ → ℕ → ℕ → Type 0
 StretchIs n v start pins = (stretch n v .start ≡ start) × (stretch n v .pins ≡ pins)
 

@@ -14,7 +14,7 @@ pub data Time : Type 0 where
   at : ℕ → Time
   refused : ℕ → ℕ → Time
 
--- this paper's number for a refusal of the code, and the node that it carries
+-- 01's number for a refusal of the code, and the node that it carries
 abbrev pub numberOf : Refusal → ℕ
 numberOf (refusals.Fetch v) = 9
 numberOf (refusals.Time v) = 10
@@ -43,7 +43,7 @@ nodeTimeIn zero fetch v = at 0
 nodeTimeIn (suc f) fetch v = under v (nodeTimeIn f fetch (v / 2)) (fetch v)
 
 -- The time of node v by what is fetched for the nodes down to it, of which there is one on each level; `time-step` in
--- proofs/Times has the equation without their number.
+-- proofs/NodeTimes has the equation without their number.
 unfoldable pub nodeTime : (ℕ → Fetched) → ℕ → Time
 nodeTime fetch v = nodeTimeIn (height v) fetch v
 

@@ -41,9 +41,13 @@ met time answer (v ∷ vs) = unless (time v) (met time answer vs)
 
 -- ---- access
 
--- from the root to the node of rank i
+-- the nodes from node v to the one of rank i
+abbrev pub towardFrom : ℕ → ℕ → ℕ → List ℕ
+towardFrom n i v = walk n (λ u. eqb (rank n u) i) (λ u. ltb (rank n u) i) v
+
+-- from the root
 unfoldable pub toward : ℕ → ℕ → List ℕ
-toward n i = walk n (λ v. eqb (rank n v) i) (λ v. ltb (rank n v) i) 1
+toward n i = towardFrom n i 1
 
 unfoldable pub lastOf : ℕ → List ℕ → ℕ
 lastOf d [] = d
@@ -67,12 +71,15 @@ unfoldable pub lastLeft : ℕ → (ℕ → Bool) → ℕ → List ℕ → ℕ
 lastLeft n past d [] = d
 lastLeft n past d (v ∷ vs) = lastLeft n past (cond (past v) d (rank n v)) vs
 
--- left where the node's time is at or above t, else right, until no child; the position is that rank, or n
+-- from the root, left where the node's time is at or above t, else right, until no child
+abbrev pub searchNodes : ℕ → (ℕ → Time) → ℕ → List ℕ
+searchNodes n time t = walk n never (λ v. ltb (known (time v)) t) 1
+
+-- the position is the rank of the last node left by its left side, or n
 unfoldable pub searchAnswer : ℕ → (ℕ → Time) → ℕ → Answer
 searchAnswer n time t =
-    let past : ℕ → Bool = λ v. ltb (known (time v)) t in
-    let nodes = walk n never past 1 in
-    met time (found (lastLeft n past n nodes) (length nodes)) nodes
+    let nodes = searchNodes n time t in
+    met time (found (lastLeft n (λ v. ltb (known (time v)) t) n nodes) (length nodes)) nodes
 
 abbrev pub searched : Searched → Answer
 searched (search.Position p k) = found p k

@@ -2,7 +2,7 @@
 use super::shape::root_place;
 ghost use mathlib.Core.Path.{_≡_};
 ghost use mathlib.Core.List.{_++_};
-ghost use Prim.Native.Nat.{_+_, _%_, _^_, _<_, _≤_};
+ghost use Prim.Native.Nat.{_+_, _%_, _≤_};
 ghost use lib.Dec.{T};
 ghost use lib.ListN.{length, drop};
 ghost use Rattle.tree.specs.Shape.{StretchIs};
@@ -27,7 +27,7 @@ fn stored_value(v: usize, above: u32, time: u32) -> u32
 // parent is `above`.
 fn fill(values: &mut [u32], times: &[u32], start: usize, pins: usize, v: usize, above: u32)
     requires { ⌜ T (ordered (now times)) ⌝ }
-    requires { ⌜ (length (now times) ≤ length (now values)) × (length (now times) < 2 ^ 63) × (1 ≤ v) ⌝ }
+    requires { ⌜ (length (now times) ≤ length (now values)) × (1 ≤ v) ⌝ }
     requires { ⌜ StretchIs (length (now times)) v start pins × (start + pins ≤ length (now times)) × (timeAbove (now times) v ≡ above) ⌝ }
     ensures { λ r. ⌜ Filled (now (times .entry)) v (now (values .entry)) (now (values .exit)) ⌝ }
 {
@@ -48,7 +48,7 @@ fn fill(values: &mut [u32], times: &[u32], start: usize, pins: usize, v: usize, 
 // Writes the stored values of an ordered list to the front of `values`, in node order.
 pub fn construct(values: &mut [u32], times: &[u32])
     requires { ⌜ T (ordered (now times)) ⌝ }
-    requires { ⌜ (length (now times) ≤ length (now values)) × (length (now times) < 2 ^ 63) ⌝ }
+    requires { ⌜ length (now times) ≤ length (now values) ⌝ }
     ensures { λ r. ⌜ now (values .exit) ≡ storedValues (now (times .entry)) ++ drop (length (now (times .entry))) (now (values .entry)) ⌝ }
 {
     fill(values, times, 0, times.len(), 1, 0);

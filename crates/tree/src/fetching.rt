@@ -2,7 +2,7 @@
 use super::shape::power_of_two;
 use codes::Found;
 ghost use mathlib.Core.Path.{_≡_};
-ghost use Prim.Native.Nat.{_*_, _^_, _≤_, _<_};
+ghost use Prim.Native.Nat.{_*_, _^_, _≤_, _<_, min};
 ghost use Rattle.codes.specs.Fetch.{found};
 ghost use Rattle.tree.specs.Levels.{Fits, fetchedAt};
 
@@ -15,7 +15,7 @@ pub struct Levels {
 }
 
 fn least(a: usize, b: usize) -> usize
-    ensures { λ r. ⌜ r ≡ Prim.Native.Nat.min a b ⌝ }
+    ensures { λ r. ⌜ r ≡ min a b ⌝ }
 {
     if a < b { a } else { b }
 }

@@ -21,8 +21,11 @@ pub enum Refusal {
     Time(usize),
 }
 
+// The greatest time.
+const GREATEST: u32 = 4294967295;
+
 // The time of a node that is opened.
-pub enum Opened {
+enum Opened {
     Time(u32),
     Refused(Refusal),
 }
@@ -49,7 +52,7 @@ fn time_under(v: usize, above: u32, d: u32) -> Opened
         }
         return Opened::Time(above - d);
     }
-    if 4294967295 - above < d {
+    if GREATEST - above < d {
         return Opened::Refused(Refusal::Time(v));
     }
     Opened::Time(above + d)

@@ -1,7 +1,7 @@
 // The tree for programs in other languages: each function of `tree`, on numbers and slices.
 ghost use mathlib.Core.Path.{_≡_};
 ghost use mathlib.Core.List.{[], _∷_, _++_};
-ghost use Prim.Native.Nat.{_^_, _<_, _≤_};
+ghost use Prim.Native.Nat.{_<_, _≤_};
 ghost use lib.Dec.{T};
 ghost use lib.ListN.{length, drop};
 ghost use Rattle.tree.specs.Shape.{height, rootPlace, ranked};
@@ -45,7 +45,7 @@ pub extern "C" fn tree_rank(n: usize, v: usize) -> usize
 #[no_mangle]
 pub extern "C" fn tree_construct(values: &mut [u32], times: &[u32])
     requires { ⌜ T (ordered (now times)) ⌝ }
-    requires { ⌜ (length (now times) ≤ length (now values)) × (length (now times) < 2 ^ 63) ⌝ }
+    requires { ⌜ length (now times) ≤ length (now values) ⌝ }
     ensures { λ r. ⌜ now (values .exit) ≡ storedValues (now (times .entry)) ++ drop (length (now (times .entry))) (now (values .entry)) ⌝ }
 {
     tree::construct(values, times);

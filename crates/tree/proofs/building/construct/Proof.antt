@@ -12,7 +12,7 @@ use Rattle.tree.proofs.building.construct.Tie as tie
 fill-requires : tie.Need-fill-requires
 fill-requires c κs =
     let xs = c .before .before .before .args .times .now in
-    (c .before .before .before .pre .0, ((c .before .before .before .pre .1 .0, c .before .before .before .pre .1 .1, omega arith), (rw (stretch-root (length xs)) (refl, refl), omega arith, above-root xs 1 (omega arith))))
+    (c .before .before .before .pre .0, ((c .before .before .before .pre .1, omega arith), (rw (stretch-root (length xs)) (refl, refl), omega arith, above-root xs 1 (omega arith))))
 
 same-length : tie.Need-same-length
 same-length c = search needs
@@ -20,7 +20,7 @@ same-length c = search needs
 returns : tie.Need-returns
 returns c =
     let a = c .before .before .before .before .before .before .args in
-    filled-all (a .times .now) (a .values .now) (c .before .before .fill .last .0) (c .before .before .before .before .before .before .pre .1 .0) (c .before .before .fill .ensures)
+    filled-all (a .times .now) (a .values .now) (c .before .before .fill .last .0) (c .before .before .before .before .before .before .pre .1) (c .before .before .fill .ensures)
 
 pub construct-spec : {M : Type 1} → statement M
 construct-spec = tie.close (tie.spec fill-requires same-length returns)
