@@ -1,16 +1,16 @@
 -- What filling the buffer node by node leaves in it.
 use mathlib.Core.Path.{_≡_, refl, sym, ap, _∙_}
 use mathlib.Core.Logic.{inl, inr}
+use mathlib.Core.Bool.{true, false}
 use mathlib.Core.List.{List, _++_}
 use Prim.Native.Nat.{ℕ, suc, _+_, _-_, _*_, _/_, _≤_, _<_}
-use native.Mathlib.Nat.{le-refl}
 use native.Mathlib.Decide.{decLt, ℕ-discrete}
 use native.Mathlib.Omega.{arith}
 use lib.ListN.{length, getD, drop, set, length-set, length-append, length-drop, List·getD-append}
 use lib.Seq.{ext-getD, getD-append-add, getD-drop, getD-set-same, getD-set-other}
-use Rattle.tree.specs.Shape.{rootPlace, StretchIs}
+use Rattle.tree.specs.Shape.{rootPlace, childOf, StretchIs}
 use Rattle.tree.specs.Stored.{timeOf, timeAbove, stored, storedValues}
-use Rattle.tree.specs.Filled.{Under, here, in-left, in-right, Correct, Filled}
+use Rattle.tree.specs.Filled.{Under, here, below, Correct, Filled}
 use Rattle.tree.proofs.Heights.{place-small}
 use Rattle.tree.proofs.Stretches.{node-of-pins, past-nodes, is-left, rank-is}
 use Rattle.tree.proofs.Contents.{above-child}
@@ -37,6 +37,7 @@ module _ (xs : List ℕ) where
   -- node v's own entry, then those of its left and of its right subtree
   pub filled-node : (v : ℕ) (before now left right : List ℕ) → 1 ≤ v → v ≤ length xs → v ≤ length before → now ≡ set before (v - 1) (stored xs v)
       → Filled xs (2 * v) now left → Filled xs (2 * v + 1) left right → Filled xs v before right
+  unfolding childOf
   filled-node v before now left right one h room w l r = record {
     kept = r .kept ∙ l .kept ∙ ap length w ∙ length-set before (v - 1) (stored xs v);
     done = done;
@@ -58,8 +59,8 @@ module _ (xs : List ℕ) where
       done i (here e) k =
           let j : i ≡ v - 1 = omega arith in
           correct-stays i _ _ (later i) (rw (w, j) (getD-set-same before (v - 1) (stored xs v) 0 (omega arith)) ∙ ap (stored xs) e)
-      done i (in-left u) k = correct-stays i _ _ (r .others i) (l .done i u k)
-      done i (in-right u) k = r .done i u k
+      done i (below false u) k = correct-stays i _ _ (r .others i) (l .done i u k)
+      done i (below true u) k = r .done i u k
 
   pub filled-leaf : (v : ℕ) (before now : List ℕ) → 1 ≤ v → v ≤ length xs → v ≤ length before → now ≡ set before (v - 1) (stored xs v)
       → length xs < 2 * v → Filled xs v before now
@@ -85,7 +86,7 @@ module _ (xs : List ℕ) where
 
       entry : (i : ℕ) → Dec (i < length xs) → getD after i 0 ≡ getD (storedValues xs ++ drop (length xs) before) i 0
       entry i (yes h) =
-          f .done i (under-root (suc i) (suc i) (le-refl (suc i)) (omega arith)) h
+          f .done i (under-root (suc i) (omega arith)) h
           ∙ sym (List·getD-append (storedValues xs) (drop (length xs) before) 0 i (rw own h) ∙ getD-stored xs i h)
       entry i (no h) = elim (f .others i) [
         | inl e ↦ e ∙ later i (omega arith)

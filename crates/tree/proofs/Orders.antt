@@ -27,7 +27,7 @@ smaller-le t (x ∷ xs) = elim (decLt x t) [
   | no k ↦ omega (arith, smaller-same t x xs (omega arith), smaller-le t xs)
 ]
 
-pub ordered-head : (x y : ℕ) (ys : List ℕ) → T (ordered (x ∷ y ∷ ys)) → (x ≤ y) × T (ordered (y ∷ ys))
+ordered-head : (x y : ℕ) (ys : List ℕ) → T (ordered (x ∷ y ∷ ys)) → (x ≤ y) × T (ordered (y ∷ ys))
 unfolding ordered
 ordered-head x y ys o = go (leb x y) refl o
   where
@@ -35,7 +35,7 @@ ordered-head x y ys o = go (leb x y) refl o
     go true e o = (leb-true x y e, o)
     go false e o = absurd o
 
-pub ordered-tail : (x : ℕ) (xs : List ℕ) → T (ordered (x ∷ xs)) → T (ordered xs)
+ordered-tail : (x : ℕ) (xs : List ℕ) → T (ordered (x ∷ xs)) → T (ordered xs)
 unfolding ordered
 ordered-tail x [] o = tt
 ordered-tail x (y ∷ ys) o = ordered-head x y ys o .1

@@ -2,7 +2,7 @@
 use mathlib.Core.Path.{_≡_, refl, sym, ap, ap₂, _∙_}
 use mathlib.Core.Bool.{Bool, true, false, cond}
 use mathlib.Core.List.{List, [], _∷_, _++_, append-nil}
-use Prim.Native.Nat.{ℕ, zero, suc, _+_, _*_, _/_, _≤_, _<_}
+use Prim.Native.Nat.{ℕ, zero, suc, _+_, _/_, _≤_, _<_}
 use native.Mathlib.Nat.{le-refl}
 use native.Mathlib.Decide.{decLt}
 use native.Mathlib.Omega.{arith}
@@ -14,10 +14,10 @@ use Rattle.tree.specs.Lists.{ordered, smaller}
 use Rattle.tree.specs.Stored.{timeOf}
 use Rattle.tree.specs.Times.{Time, at, known}
 use Rattle.tree.specs.Walks.{walk, found, towardFrom, toward, lastOf, accessAnswer, never, lastLeft, searchNodes, searchAnswer, path, fromRootIn, fromRoot}
-use Rattle.tree.specs.Filled.{Under, here, in-left, in-right}
+use Rattle.tree.specs.Filled.{Under, here, below}
 use Rattle.tree.proofs.Heights.{height-zero, height-step}
 use Rattle.tree.proofs.Orders.{smaller-le, smaller-first}
-use Rattle.tree.proofs.Walks.{walk-out, walk-on, toward-on, walk-same, met-none}
+use Rattle.tree.proofs.Walks.{child-bounds, parent-of, walk-out, walk-on, toward-on, walk-same, met-none}
 use Rattle.tree.proofs.Inorder.{Tree, out, node, tree}
 use Rattle.tree.proofs.Ranks.{under-root, under-rank, under-out, rank-lt, rank-found}
 
@@ -26,8 +26,7 @@ use Rattle.tree.proofs.Ranks.{under-root, under-rank, under-out, rank-l
 -- the nodes from w down to a node under it
 steps : {w v : ℕ} → Under w v → List ℕ
 steps {w} (here e) = w ∷ []
-steps {w} (in-left x) = w ∷ steps x
-steps {w} (in-right x) = w ∷ steps x
+steps {w} (below b x) = w ∷ steps x
 
 toward-under : (n v : ℕ) {w a b : ℕ} → v ≤ n → Tree n w a b → (x : Under w v)
     → towardFrom n (rank n v) w ≡ steps x
@@ -35,54 +34,55 @@ unfolding steps childOf
 toward-under n v k (out h e) x = absurd (omega (arith, under-out n x h))
 toward-under n v {w} k (node h l a b) (here e) =
     toward-on n (rank n v) w h l ∙ rw (eq-eqb (rank n w) (rank n v) (ap (rank n) e))
-toward-under n v {w} k (node h l a b) (in-left x) =
+toward-under n v {w} k (node h l a b) (below false x) =
     let r = under-rank a x k in
     toward-on n (rank n v) w h l
     ∙ rw (ne-eqb (rank n w) (rank n v) (omega arith), le-ltb (rank n w) (rank n v) (omega arith)) (ap (λ (us : List ℕ). w ∷ us) (toward-under n v k a x))
-toward-under n v {w} k (node h l a b) (in-right x) =
+toward-under n v {w} k (node h l a b) (below true x) =
     let r = under-rank b x k in
     toward-on n (rank n v) w h l
     ∙ rw (ne-eqb (rank n w) (rank n v) (omega arith), lt-ltb (rank n w) (rank n v) (omega arith)) (ap (λ (us : List ℕ). w ∷ us) (toward-under n v k b x))
 
 -- one node on each level
-fromRoot-one : (v : ℕ) (below : List ℕ) → 1 ≤ v → fromRootIn (height v) v below ≡ fromRootIn (height (v / 2)) (v / 2) (v ∷ below)
+fromRoot-one : (v : ℕ) (after : List ℕ) → 1 ≤ v → fromRootIn (height v) v after ≡ fromRootIn (height (v / 2)) (v / 2) (v ∷ after)
 unfolding fromRootIn
-fromRoot-one v below h = rw (height-step v h)
+fromRoot-one v after h = rw (height-step v h)
 
-fromRoot-under : {w v : ℕ} (x : Under w v) (below : List ℕ) → 1 ≤ w
-    → fromRootIn (height v) v below ≡ fromRootIn (height (w / 2)) (w / 2) (steps x ++ below)
+fromRoot-under : {w v : ℕ} (x : Under w v) (after : List ℕ) → 1 ≤ w
+    → fromRootIn (height v) v after ≡ fromRootIn (height (w / 2)) (w / 2) (steps x ++ after)
 unfolding steps
-fromRoot-under {w} {v} (here e) below h = rw (← e) (fromRoot-one w below h)
-fromRoot-under {w} {v} (in-left x) below h =
-    let e : 2 * w / 2 ≡ w = omega arith in
-    fromRoot-under x below (omega arith) ∙ rw e (fromRoot-one w (steps x ++ below) h)
-fromRoot-under {w} {v} (in-right x) below h =
-    let e : (2 * w + 1) / 2 ≡ w = omega arith in
-    fromRoot-under x below (omega arith) ∙ rw e (fromRoot-one w (steps x ++ below) h)
+fromRoot-under {w} (here e) after h = rw (← e) (fromRoot-one w after h)
+fromRoot-under {w} (below b x) after h =
+    fromRoot-under x after (omega (arith, child-bounds b w)) ∙ rw (parent-of b w) (fromRoot-one w (steps x ++ after) h)
 
 pub toward-rank : (n v : ℕ) → 1 ≤ v → v ≤ n → toward n (rank n v) ≡ fromRoot v
 unfolding toward fromRootIn
 toward-rank n v h k =
-    let x = under-root v v (le-refl v) h in
+    let x = under-root v h in
     let e : 1 / 2 ≡ 0 = omega arith in
     toward-under n v k (tree n) x ∙ sym (fromRoot-under x [] (le-refl 1) ∙ rw (e, height-zero) (append-nil (steps x)))
 
-fromRootIn-length : (f v : ℕ) (below : List ℕ) → length (fromRootIn f v below) ≡ f + length below
+fromRootIn-length : (f v : ℕ) (after : List ℕ) → length (fromRootIn f v after) ≡ f + length after
 unfolding fromRootIn
-fromRootIn-length zero v below = omega arith
-fromRootIn-length (suc f) v below = fromRootIn-length f (v / 2) (v ∷ below) ∙ omega arith
+fromRootIn-length zero v after = omega arith
+fromRootIn-length (suc f) v after = fromRootIn-length f (v / 2) (v ∷ after) ∙ omega arith
 
 pub fromRoot-length : (v : ℕ) → length (fromRoot v) ≡ height v
 fromRoot-length v = fromRootIn-length (height v) v [] ∙ omega arith
 
-lastOf-fromRoot : (f v b : ℕ) (below : List ℕ) → lastOf 0 (fromRootIn f v (b ∷ below)) ≡ lastOf 0 (b ∷ below)
+lastOf-fromRoot : (f v b : ℕ) (after : List ℕ) → lastOf 0 (fromRootIn f v (b ∷ after)) ≡ lastOf 0 (b ∷ after)
 unfolding fromRootIn lastOf
-lastOf-fromRoot zero v b below = refl
-lastOf-fromRoot (suc f) v b below = lastOf-fromRoot f (v / 2) v (b ∷ below)
+lastOf-fromRoot zero v b after = refl
+lastOf-fromRoot (suc f) v b after = lastOf-fromRoot f (v / 2) v (b ∷ after)
 
 last-fromRoot : (v : ℕ) → 1 ≤ v → lastOf 0 (fromRoot v) ≡ v
 unfolding lastOf
 last-fromRoot v h = ap (lastOf 0) (fromRoot-one v [] h) ∙ lastOf-fromRoot (height (v / 2)) (v / 2) v []
+
+-- so no two nodes have one rank
+pub rank-once : (n u v : ℕ) → 1 ≤ u → u ≤ n → 1 ≤ v → v ≤ n → rank n u ≡ rank n v → u ≡ v
+rank-once n u v a b c d e =
+    sym (last-fromRoot u a) ∙ ap (lastOf 0) (sym (toward-rank n u a b) ∙ ap (toward n) e ∙ toward-rank n v c d) ∙ last-fromRoot v c
 
 -- ---- search
 

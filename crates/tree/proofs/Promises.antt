@@ -17,9 +17,9 @@ use Rattle.tree.specs.Promises.{HeightLeast, Shape, Held, Contents, Sear
 use Rattle.tree.proofs.Heights.{digits, height-bound, height-le, height-is}
 use Rattle.tree.proofs.Stretches.{stretch-root, stretch-left, stretch-right, node-iff}
 use Rattle.tree.proofs.Inorder.{tree}
-use Rattle.tree.proofs.Ranks.{rank-lt, rank-found, rank-once}
+use Rattle.tree.proofs.Ranks.{rank-lt, rank-found}
 use Rattle.tree.proofs.Walks.{walk-length}
-use Rattle.tree.proofs.Paths.{toward-rank, fromRoot-length, access-answer, search-path, search-answer}
+use Rattle.tree.proofs.Paths.{toward-rank, rank-once, fromRoot-length, access-answer, search-path, search-answer}
 use Rattle.tree.proofs.Contents.{times-back}
 use Rattle.tree.proofs.LevelValues.{fetched-stored}
 

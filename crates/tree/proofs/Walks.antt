@@ -2,12 +2,12 @@
 use mathlib.Core.Path.{_≡_, refl, ap, _∙_}
 use mathlib.Core.Bool.{Bool, true, false, cond}
 use mathlib.Core.List.{List, [], _∷_}
-use Prim.Native.Nat.{ℕ, zero, suc, _+_, _-_, _*_, _/_, _≤_, _<_}
-use native.Mathlib.Decide.{decLt}
+use Prim.Native.Nat.{ℕ, zero, suc, _+_, _-_, _*_, _/_, _%_, _≤_, _<_}
+use native.Mathlib.Decide.{decLt, ℕ-discrete}
 use native.Mathlib.Omega.{arith}
 use lib.Dec.{eqb, ltb}
 use lib.ListN.{length}
-use borrow.Author.Tests.{lt-ltb, le-ltb}
+use borrow.Author.Tests.{lt-ltb, le-ltb, eq-eqb, ne-eqb}
 use Rattle.tree.specs.Shape.{height, childOf, rank}
 use Rattle.tree.specs.Times.{Time, at, refused}
 use Rattle.tree.specs.Walks.{walkIn, walk, Answer, stopped, met, towardFrom}
@@ -22,6 +22,14 @@ pub parent-of : (right : Bool) (v : ℕ) → childOf right v / 2 ≡ v
 unfolding childOf
 parent-of true v = omega arith
 parent-of false v = omega arith
+
+-- every number is a child of its half
+pub child-half : (v : ℕ) → v ≡ childOf (eqb (v % 2) 1) (v / 2)
+unfolding childOf
+child-half v = elim (ℕ-discrete (v % 2) 1) [
+  | yes e ↦ rw (eq-eqb (v % 2) 1 e) (omega arith)
+  | no e ↦ rw (ne-eqb (v % 2) 1 e) (omega arith)
+]
 
 pub height-child : (right : Bool) (v : ℕ) → 1 ≤ v → height (childOf right v) ≡ suc (height v)
 height-child right v h = height-step (childOf right v) (omega (arith, child-bounds right v)) ∙ rw (parent-of right v)

@@ -1,16 +1,17 @@
 -- What `fill` promises of the buffer that it works in.
 use mathlib.Core.Path.{_≡_}
 use mathlib.Core.Logic.{_⊎_}
+use mathlib.Core.Bool.{Bool}
 use mathlib.Core.List.{List}
-use Prim.Native.Nat.{ℕ, suc, _+_, _*_, _<_}
+use Prim.Native.Nat.{ℕ, suc, _<_}
 use lib.ListN.{length, getD}
+use Rattle.tree.specs.Shape.{childOf}
 use Rattle.tree.specs.Stored.{stored}
 
 -- node u stands in the subtree of node w
 pub data Under : ℕ → ℕ → Type 0 where
   here : {w u : ℕ} → w ≡ u → Under w u
-  in-left : {w u : ℕ} → Under (2 * w) u → Under w u
-  in-right : {w u : ℕ} → Under (2 * w + 1) u → Under w u
+  below : {w u : ℕ} (right : Bool) → Under (childOf right w) u → Under w u
 
 -- entry i is unchanged, or is what its node stores
 abbrev pub Correct : List ℕ → ℕ → ℕ → ℕ → Type 0
