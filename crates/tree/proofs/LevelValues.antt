@@ -9,7 +9,7 @@ use lib.Pow.{pow-pos}
 use Rattle.codes.specs.Codes.{part}
 use Rattle.codes.specs.Fetch.{fetched, value}
 use Rattle.codes.proofs.Promises.{round-trip}
-use Rattle.tree.specs.declared.fetching.Levels.{Levels}
+use Rattle.tree.specs.declared.nodes.Levels.{Levels}
 use Rattle.tree.specs.Shape.{height}
 use Rattle.tree.specs.Stored.{stored, storedFrom, storedValues}
 use Rattle.tree.specs.Levels.{firstOf, countOf, codeOf, partOf, levelValues, fetchedAt, Stores}

@@ -8,7 +8,7 @@ use native.Mathlib.Omega.{arith}
 use lib.ListN.{length, take, drop, getD}
 use lib.Pow.{pow-pos, pow-mono}
 use Rattle.codes.specs.Fetch.{fetched}
-use Rattle.tree.specs.declared.fetching.Levels.{Levels}
+use Rattle.tree.specs.declared.nodes.Levels.{Levels}
 use Rattle.tree.specs.Levels.{countOf, partOf, fetchedAt, Fits}
 use Rattle.tree.proofs.Heights.{height-is, height-above, height-bound}
 

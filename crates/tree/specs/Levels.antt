@@ -5,7 +5,7 @@ use Prim.Native.Nat.{ℕ, suc, _+_, _-_, _^_, _≤_, _<_, min}
 use lib.ListN.{length, take, drop, getD}
 use Rattle.codes.specs.Codes.{kindOf, part, Holds}
 use Rattle.codes.specs.Fetch.{Fetched, fetched}
-use Rattle.tree.specs.declared.fetching.Levels.{Levels}
+use Rattle.tree.specs.declared.nodes.Levels.{Levels}
 use Rattle.tree.specs.Shape.{height}
 use Rattle.tree.specs.Stored.{storedValues}
 

@@ -9,7 +9,7 @@ use Rattle.codes.specs.Bits.{bits, number, sum, fixed}
 use Rattle.codes.specs.Codes.{kindOf}
 use Rattle.codes.specs.Marked.{same}
 use Rattle.codes.specs.Fetch.{fixedAt, fetchLayers, chunkedAt, fetched}
-use Rattle.tree.specs.declared.fetching.Levels.{Levels}
+use Rattle.tree.specs.declared.nodes.Levels.{Levels}
 use Rattle.tree.specs.Shape.{heightIn, height, rootPlace, childOf, stretchIn, stretch, rank}
 use Rattle.tree.specs.Stored.{timeOf, timeAbove, stored, storedFrom, storedValues}
 use Rattle.tree.specs.Levels.{partOf, fetchedAt}

@@ -8,7 +8,7 @@ use Prim.Native.Nat.{ℕ, _-_, _*_, _+_, _^_, _≤_, _<_, min}
 use lib.Dec.{T}
 use lib.ListN.{length, getD}
 use Rattle.codes.specs.Codes.{Within}
-use Rattle.tree.specs.declared.fetching.Levels.{Levels}
+use Rattle.tree.specs.declared.nodes.Levels.{Levels}
 use Rattle.tree.specs.Shape.{height, sideOf, stretch, rank}
 use Rattle.tree.specs.Lists.{ordered, smaller}
 use Rattle.tree.specs.Stored.{timeOf}

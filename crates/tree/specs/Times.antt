@@ -3,10 +3,10 @@ use mathlib.Core.Bool.{cond}
 use Prim.Native.Nat.{ℕ, zero, suc, _+_, _-_, _/_, _%_, _^_}
 use lib.Dec.{eqb, ltb}
 use Rattle.codes.specs.Fetch.{Fetched, value, outside}
-use Rattle.tree.specs.declared.walking.Refusal.{Refusal}
-use Rattle.tree.specs.declared.walking.Refusal.the-variants as refusals
-use Rattle.tree.specs.declared.walking.Opened.{Opened}
-use Rattle.tree.specs.declared.walking.Opened.the-variants as opened
+use Rattle.tree.specs.declared.nodes.Refusal.{Refusal}
+use Rattle.tree.specs.declared.nodes.Refusal.the-variants as refusals
+use Rattle.tree.specs.declared.nodes.Opened.{Opened}
+use Rattle.tree.specs.declared.nodes.Opened.the-variants as opened
 use Rattle.tree.specs.Shape.{height}
 
 -- a node's time, or the number of the refusal and the node that it carries

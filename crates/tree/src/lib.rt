@@ -1,17 +1,17 @@
 // The difference tree: the shape of the heap, its construction, and the walks over its levels.
 mod building; // the stored values of a list, in node order
-mod fetching; // where the levels stand in a strip, and what a node stores
+mod nodes; // where the levels stand in a strip; one node's stored value and time
 mod shape; // height, root place, stretches and ranks
 mod walking; // access and search
 
 pub use building::construct;
-pub use fetching::Levels;
+pub use nodes::Levels;
+pub use nodes::Refusal;
 pub use shape::Ranked;
 pub use shape::height;
 pub use shape::rank;
 pub use shape::root_place;
 pub use walking::Accessed;
-pub use walking::Refusal;
 pub use walking::Searched;
 pub use walking::access;
 pub use walking::search;

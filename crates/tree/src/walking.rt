@@ -1,34 +1,17 @@
 // Access and search: walks from the root down.
-use super::fetching::Levels;
-use super::fetching::stored;
+use super::nodes::Levels;
+use super::nodes::Opened;
+use super::nodes::Refusal;
+use super::nodes::open_node;
 use super::shape::Stretch;
 use super::shape::child_of;
 use super::shape::root_place;
 use super::shape::side_of;
-use codes::Found;
 ghost use mathlib.Core.Path.{_≡_};
-ghost use Prim.Native.Nat.{_*_, _/_, _^_, _≤_, _<_};
-ghost use Rattle.codes.specs.Fetch.{value};
+ghost use Prim.Native.Nat.{_<_};
 ghost use Rattle.tree.specs.Levels.{Fits, fetchedAt};
-ghost use Rattle.tree.specs.Times.{at, under, nodeTime, timeOpened};
+ghost use Rattle.tree.specs.Times.{nodeTime};
 ghost use Rattle.tree.specs.Walks.{accessAnswer, searchAnswer, accessed, searched};
-
-// Why a walk stops at a node, with the node.
-pub enum Refusal {
-    // Its fetch passes its part, or the value is 2^32 or more.
-    Fetch(usize),
-    // Its time would be below 0 or above 4,294,967,295.
-    Time(usize),
-}
-
-// The greatest time.
-const GREATEST: u32 = 4294967295;
-
-// The time of a node that is opened.
-enum Opened {
-    Time(u32),
-    Refused(Refusal),
-}
 
 // The time at a position, with the nodes opened.
 pub enum Accessed {
@@ -40,36 +23,6 @@ pub enum Accessed {
 pub enum Searched {
     Position(usize, usize),
     Refused(Refusal),
-}
-
-// The time of node v, which stores `d`, by its parent's: a left child is `d` before it, a right child `d` after it.
-fn time_under(v: usize, above: u32, d: u32) -> Opened
-    ensures { λ r. ⌜ timeOpened r ≡ under v (at above) (value d) ⌝ }
-{
-    if v % 2 == 0 {
-        if above < d {
-            return Opened::Refused(Refusal::Time(v));
-        }
-        return Opened::Time(above - d);
-    }
-    if GREATEST - above < d {
-        return Opened::Refused(Refusal::Time(v));
-    }
-    Opened::Time(above + d)
-}
-
-// Opens node v, which has `depth` levels and the time `above` above it. Above the root the time is 0.
-fn open_node(s: &[u8], levels: Levels, depth: usize, v: usize, above: u32) -> Opened
-    requires { ⌜ Fits levels (now s) ⌝ }
-    requires { ⌜ (2 ^ depth ≤ v) × (v < 2 * 2 ^ depth) × (v ≤ levels .pins) ⌝ }
-    requires { ⌜ nodeTime (fetchedAt levels (now s)) (v / 2) ≡ at above ⌝ }
-    ensures { λ r. ⌜ timeOpened r ≡ nodeTime (fetchedAt levels (now (s .entry))) v ⌝ }
-{
-    let found = stored(s, levels, depth, v);
-    match found {
-        Found::Value(d) => time_under(v, above, d),
-        Found::Outside => Opened::Refused(Refusal::Fetch(v)),
-    }
 }
 
 // The time at position i: from the root down to the node of rank i.
@@ -87,8 +40,17 @@ pub fn access(s: &[u8], levels: Levels, i: usize) -> Accessed
     let mut time: u32 = 0;
     let mut nodes: usize = 0;
     loop {
+        let start = levels.ends[depth];
+        let end = levels.ends[depth + 1];
         nodes += 1;
-        let opened = open_node(s, levels, depth, v, time);
+        let opened = open_node(
+            &s[start..end],
+            levels.codes[depth],
+            levels.pins,
+            depth,
+            v,
+            time,
+        );
         match opened {
             Opened::Time(t) => {
                 time = t;
@@ -123,8 +85,17 @@ pub fn search(s: &[u8], levels: Levels, target: u32) -> Searched
     let mut nodes: usize = 0;
     let mut position = levels.pins;
     while v <= levels.pins {
+        let start = levels.ends[depth];
+        let end = levels.ends[depth + 1];
         nodes += 1;
-        let opened = open_node(s, levels, depth, v, time);
+        let opened = open_node(
+            &s[start..end],
+            levels.codes[depth],
+            levels.pins,
+            depth,
+            v,
+            time,
+        );
         match opened {
             Opened::Time(t) => {
                 time = t;

@@ -3,7 +3,7 @@ use mathlib.Core.List.{List, [], _∷_}
 use Prim.Native.Nat.{ℕ, _-_, _^_}
 use Rattle.tree.specs.declared.shape.Ranked.{Ranked}
 use Rattle.tree.specs.declared.shape.Ranked.the-variants.{At, NoNode}
-use Rattle.tree.specs.declared.fetching.Levels.{Levels}
+use Rattle.tree.specs.declared.nodes.Levels.{Levels}
 use Rattle.tree.specs.Walks.{Answer, found, stopped}
 
 -- a rank, or 2 ^ 64 - 1 where the number is no node's

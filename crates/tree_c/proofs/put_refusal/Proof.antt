@@ -1,7 +1,7 @@
 -- `put_refusal` meets its contract.
 use mathlib.Core.Path.{sym, ap, _∙_}
 use mathlib.Core.List.{[], _∷_}
-use Rattle.tree.specs.declared.walking.Refusal.{Refusal}
+use Rattle.tree.specs.declared.nodes.Refusal.{Refusal}
 use Rattle.tree.specs.Times.{numberOf, nodeOf}
 use borrow.Author.Needs.{needs}
 use Rattle.tree_c.proofs.put_refusal.Statement.{statement}

@@ -3,8 +3,8 @@ use native.Mathlib.Omega.{arith}
 use Prim.Native.Nat.{_+_, _%_}
 use borrow.Author.Tests.{lt-ltb, le-ltb, ne-eqb}
 use borrow.Author.Needs.{needs}
-use Rattle.tree.proofs.walking.time_under.Statement.{statement}
-use Rattle.tree.proofs.walking.time_under.Tie as tie
+use Rattle.tree.proofs.nodes.time_under.Statement.{statement}
+use Rattle.tree.proofs.nodes.time_under.Tie as tie
 
 returns : tie.Need-returns
 returns c = rw (c .before .if1 .taken, lt-ltb (c .before .before .args .above) (c .before .before .args .d) (c .if2 .taken))

@@ -1,0 +1,69 @@
+// One node: what it stores on its level, and its time.
+use super::shape::power_of_two;
+use codes::Found;
+ghost use mathlib.Core.Path.{_≡_};
+ghost use Prim.Native.Nat.{_+_, _-_, _*_, _^_, _≤_, _<_, min};
+ghost use lib.ListN.{length};
+ghost use Rattle.codes.specs.Fetch.{value, fetched};
+ghost use Rattle.tree.specs.Times.{at, under, timeOpened};
+
+// The pin count, each level's code byte and each level's end. Entry 0 of the ends is where the first level starts; so the part
+// of level L, counted from 1, is the strip's bytes from entry L - 1 up to entry L.
+pub struct Levels {
+    pub pins: usize,
+    pub codes: [u8; 16],
+    pub ends: [usize; 17],
+}
+
+// Why a walk stops at a node, with the node.
+pub enum Refusal {
+    // Its fetch passes its part, or the value is 2^32 or more.
+    Fetch(usize),
+    // Its time would be below 0 or above 4,294,967,295.
+    Time(usize),
+}
+
+// The greatest time.
+const GREATEST: u32 = 4294967295;
+
+// The time of a node that is opened.
+pub enum Opened {
+    Time(u32),
+    Refused(Refusal),
+}
+
+fn least(a: usize, b: usize) -> usize
+    ensures { λ r. ⌜ r ≡ min a b ⌝ }
+{
+    if a < b { a } else { b }
+}
+
+// The time of node v, which stores `d`, by its parent's: a left child is `d` before it, a right child `d` after it.
+fn time_under(v: usize, above: u32, d: u32) -> Opened
+    ensures { λ r. ⌜ timeOpened r ≡ under v (at above) (value d) ⌝ }
+{
+    if v % 2 == 0 {
+        if above < d {
+            return Opened::Refused(Refusal::Time(v));
+        }
+        return Opened::Time(above - d);
+    }
+    if GREATEST - above < d {
+        return Opened::Refused(Refusal::Time(v));
+    }
+    Opened::Time(above + d)
+}
+
+// Opens node v of n by a fetch from its level's part alone, in code `code`. It has `depth` levels and the time `above` above it.
+pub fn open_node(part: &[u8], code: u8, n: usize, depth: usize, v: usize, above: u32) -> Opened
+    requires { ⌜ (2 ^ depth ≤ v) × (v < 2 * 2 ^ depth) × (v ≤ n) × (n < 2 ^ 63) × (length (now part) < 2 ^ 32) ⌝ }
+    ensures { λ r. ⌜ timeOpened r ≡ under v (at above) (fetched code (min (n + 1 - 2 ^ depth) (2 ^ depth)) (v - 2 ^ depth) (now (part .entry))) ⌝ }
+{
+    let first = power_of_two(depth);
+    let count = least(n + 1 - first, first);
+    let found = codes::fetch(part, code, count, v - first);
+    match found {
+        Found::Value(d) => time_under(v, above, d),
+        Found::Outside => Opened::Refused(Refusal::Fetch(v)),
+    }
+}
