@@ -42,15 +42,9 @@ pub fn access(s: &[u8], levels: Levels, i: usize) -> Accessed
     loop {
         let start = levels.ends[depth];
         let end = levels.ends[depth + 1];
+        let code = levels.codes[depth];
         nodes += 1;
-        let opened = open_node(
-            &s[start..end],
-            levels.codes[depth],
-            levels.pins,
-            depth,
-            v,
-            time,
-        );
+        let opened = open_node(&s[start..end], code, levels.pins, depth, v, time);
         match opened {
             Opened::Time(t) => {
                 time = t;
@@ -87,15 +81,9 @@ pub fn search(s: &[u8], levels: Levels, target: u32) -> Searched
     while v <= levels.pins {
         let start = levels.ends[depth];
         let end = levels.ends[depth + 1];
+        let code = levels.codes[depth];
         nodes += 1;
-        let opened = open_node(
-            &s[start..end],
-            levels.codes[depth],
-            levels.pins,
-            depth,
-            v,
-            time,
-        );
+        let opened = open_node(&s[start..end], code, levels.pins, depth, v, time);
         match opened {
             Opened::Time(t) => {
                 time = t;

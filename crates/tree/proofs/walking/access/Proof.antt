@@ -44,20 +44,20 @@ mul-end c = omega (arith, level-fits (c .before .before .before .args .t2) (c .b
 element-copy-out-end : tie.Need-element-copy-out-end Inv-loop μ-loop
 element-copy-out-end c = omega (arith, level-fits (c .before .before .before .args .t2) (c .before .before .before .args .s .now) (c .before .loop .depth) (c .before .loop .v) (c .before .before .before .pre .0) (c .before .loop .inv .0 .low) (stands-node (c .before .loop .inv .0) (omega arith)))
 
+element-copy-out-code : tie.Need-element-copy-out-code Inv-loop μ-loop
+element-copy-out-code c = omega (arith, level-fits (c .before .before .before .before .args .t2) (c .before .before .before .before .args .s .now) (c .before .before .loop .depth) (c .before .before .loop .v) (c .before .before .before .before .pre .0) (c .before .before .loop .inv .0 .low) (stands-node (c .before .before .loop .inv .0) (omega arith)))
+
 add-nodes : tie.Need-add-nodes Inv-loop μ-loop
-add-nodes c = omega (arith, level-fits (c .before .before .before .before .args .t2) (c .before .before .before .before .args .s .now) (c .before .before .loop .depth) (c .before .before .loop .v) (c .before .before .before .before .pre .0) (c .before .before .loop .inv .0 .low) (stands-node (c .before .before .loop .inv .0) (omega arith)))
+add-nodes c = omega (arith, level-fits (c .before .before .before .before .before .args .t2) (c .before .before .before .before .before .args .s .now) (c .before .before .before .loop .depth) (c .before .before .before .loop .v) (c .before .before .before .before .before .pre .0) (c .before .before .before .loop .inv .0 .low) (stands-node (c .before .before .before .loop .inv .0) (omega arith)))
 
 sub-open-node : tie.Need-sub-open-node Inv-loop μ-loop
-sub-open-node c = omega (arith, level-fits (c .before .before .before .before .args .t2) (c .before .before .before .before .args .s .now) (c .before .before .loop .depth) (c .before .before .loop .v) (c .before .before .before .before .pre .0) (c .before .before .loop .inv .0 .low) (stands-node (c .before .before .loop .inv .0) (omega arith)))
+sub-open-node c = omega (arith, level-fits (c .before .before .before .before .before .args .t2) (c .before .before .before .before .before .args .s .now) (c .before .before .before .loop .depth) (c .before .before .before .loop .v) (c .before .before .before .before .before .pre .0) (c .before .before .before .loop .inv .0 .low) (stands-node (c .before .before .before .loop .inv .0) (omega arith)))
 
 part-open-node-start : tie.Need-part-open-node-start Inv-loop μ-loop
-part-open-node-start c = omega (arith, level-fits (c .before .before .before .before .args .t2) (c .before .before .before .before .args .s .now) (c .before .before .loop .depth) (c .before .before .loop .v) (c .before .before .before .before .pre .0) (c .before .before .loop .inv .0 .low) (stands-node (c .before .before .loop .inv .0) (omega arith)))
+part-open-node-start c = omega (arith, level-fits (c .before .before .before .before .before .args .t2) (c .before .before .before .before .before .args .s .now) (c .before .before .before .loop .depth) (c .before .before .before .loop .v) (c .before .before .before .before .before .pre .0) (c .before .before .before .loop .inv .0 .low) (stands-node (c .before .before .before .loop .inv .0) (omega arith)))
 
 part-open-node-end : tie.Need-part-open-node-end Inv-loop μ-loop
-part-open-node-end c = omega (arith, level-fits (c .before .before .before .before .args .t2) (c .before .before .before .before .args .s .now) (c .before .before .loop .depth) (c .before .before .loop .v) (c .before .before .before .before .pre .0) (c .before .before .loop .inv .0 .low) (stands-node (c .before .before .loop .inv .0) (omega arith)))
-
-element-copy-out-open-node : tie.Need-element-copy-out-open-node Inv-loop μ-loop
-element-copy-out-open-node c = omega (arith, level-fits (c .before .before .before .before .before .args .t2) (c .before .before .before .before .before .args .s .now) (c .before .before .before .loop .depth) (c .before .before .before .loop .v) (c .before .before .before .before .before .pre .0) (c .before .before .before .loop .inv .0 .low) (stands-node (c .before .before .before .loop .inv .0) (omega arith)))
+part-open-node-end c = omega (arith, level-fits (c .before .before .before .before .before .args .t2) (c .before .before .before .before .before .args .s .now) (c .before .before .before .loop .depth) (c .before .before .before .loop .v) (c .before .before .before .before .before .pre .0) (c .before .before .before .loop .inv .0 .low) (stands-node (c .before .before .before .loop .inv .0) (omega arith)))
 
 open-node-requires : tie.Need-open-node-requires Inv-loop μ-loop
 open-node-requires c κs =
@@ -141,11 +141,11 @@ access-spec =
     add-end
     mul-end
     element-copy-out-end
+    element-copy-out-code
     add-nodes
     sub-open-node
     part-open-node-start
     part-open-node-end
-    element-copy-out-open-node
     open-node-requires
     enum-known-opened
     enum-known-opened-2

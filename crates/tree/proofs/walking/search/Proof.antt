@@ -45,20 +45,20 @@ mul-end c = omega (arith, level-fits (c .before .before .before .before .args .t
 element-copy-out-end : tie.Need-element-copy-out-end Inv-loop μ-loop
 element-copy-out-end c = omega (arith, level-fits (c .before .before .before .before .args .t2) (c .before .before .before .before .args .s .now) (c .before .before .loop .depth) (c .before .before .loop .v) (c .before .before .before .before .pre) (c .before .before .loop .inv .0 .low) (omega arith))
 
+element-copy-out-code : tie.Need-element-copy-out-code Inv-loop μ-loop
+element-copy-out-code c = omega (arith, level-fits (c .before .before .before .before .before .args .t2) (c .before .before .before .before .before .args .s .now) (c .before .before .before .loop .depth) (c .before .before .before .loop .v) (c .before .before .before .before .before .pre) (c .before .before .before .loop .inv .0 .low) (omega arith))
+
 add-nodes : tie.Need-add-nodes Inv-loop μ-loop
-add-nodes c = omega (arith, level-fits (c .before .before .before .before .before .args .t2) (c .before .before .before .before .before .args .s .now) (c .before .before .before .loop .depth) (c .before .before .before .loop .v) (c .before .before .before .before .before .pre) (c .before .before .before .loop .inv .0 .low) (omega arith))
+add-nodes c = omega (arith, level-fits (c .before .before .before .before .before .before .args .t2) (c .before .before .before .before .before .before .args .s .now) (c .before .before .before .before .loop .depth) (c .before .before .before .before .loop .v) (c .before .before .before .before .before .before .pre) (c .before .before .before .before .loop .inv .0 .low) (omega arith))
 
 sub-open-node : tie.Need-sub-open-node Inv-loop μ-loop
-sub-open-node c = omega (arith, level-fits (c .before .before .before .before .before .args .t2) (c .before .before .before .before .before .args .s .now) (c .before .before .before .loop .depth) (c .before .before .before .loop .v) (c .before .before .before .before .before .pre) (c .before .before .before .loop .inv .0 .low) (omega arith))
+sub-open-node c = omega (arith, level-fits (c .before .before .before .before .before .before .args .t2) (c .before .before .before .before .before .before .args .s .now) (c .before .before .before .before .loop .depth) (c .before .before .before .before .loop .v) (c .before .before .before .before .before .before .pre) (c .before .before .before .before .loop .inv .0 .low) (omega arith))
 
 part-open-node-start : tie.Need-part-open-node-start Inv-loop μ-loop
-part-open-node-start c = omega (arith, level-fits (c .before .before .before .before .before .args .t2) (c .before .before .before .before .before .args .s .now) (c .before .before .before .loop .depth) (c .before .before .before .loop .v) (c .before .before .before .before .before .pre) (c .before .before .before .loop .inv .0 .low) (omega arith))
+part-open-node-start c = omega (arith, level-fits (c .before .before .before .before .before .before .args .t2) (c .before .before .before .before .before .before .args .s .now) (c .before .before .before .before .loop .depth) (c .before .before .before .before .loop .v) (c .before .before .before .before .before .before .pre) (c .before .before .before .before .loop .inv .0 .low) (omega arith))
 
 part-open-node-end : tie.Need-part-open-node-end Inv-loop μ-loop
-part-open-node-end c = omega (arith, level-fits (c .before .before .before .before .before .args .t2) (c .before .before .before .before .before .args .s .now) (c .before .before .before .loop .depth) (c .before .before .before .loop .v) (c .before .before .before .before .before .pre) (c .before .before .before .loop .inv .0 .low) (omega arith))
-
-element-copy-out-open-node : tie.Need-element-copy-out-open-node Inv-loop μ-loop
-element-copy-out-open-node c = omega (arith, level-fits (c .before .before .before .before .before .before .args .t2) (c .before .before .before .before .before .before .args .s .now) (c .before .before .before .before .loop .depth) (c .before .before .before .before .loop .v) (c .before .before .before .before .before .before .pre) (c .before .before .before .before .loop .inv .0 .low) (omega arith))
+part-open-node-end c = omega (arith, level-fits (c .before .before .before .before .before .before .args .t2) (c .before .before .before .before .before .before .args .s .now) (c .before .before .before .before .loop .depth) (c .before .before .before .before .loop .v) (c .before .before .before .before .before .before .pre) (c .before .before .before .before .loop .inv .0 .low) (omega arith))
 
 open-node-requires : tie.Need-open-node-requires Inv-loop μ-loop
 open-node-requires c κs =
@@ -139,11 +139,11 @@ search-spec =
     add-end
     mul-end
     element-copy-out-end
+    element-copy-out-code
     add-nodes
     sub-open-node
     part-open-node-start
     part-open-node-end
-    element-copy-out-open-node
     open-node-requires
     enum-known-opened
     enum-known-opened-2
