@@ -14,13 +14,13 @@ use Rattle.codes.specs.Fetch.{fetched}
 use Rattle.tree.specs.declared.shape.Stretch.{Stretch}
 use Rattle.tree.specs.declared.nodes.Levels.{Levels}
 use Rattle.tree.specs.Shape.{rootPlace, childOf, sideOf, stretch, rank}
-use Rattle.tree.specs.Levels.{fetchedAt}
+use Rattle.tree.specs.Levels.{fetchedAt, Fits}
 use Rattle.tree.specs.Times.{Time, at, refused, under, known, nodeTime}
 use Rattle.tree.specs.Walks.{walk, Answer, found, stopped, met, towardFrom, toward, lastOf, accessAnswer, never, lastLeft, searchAnswer}
 use Rattle.tree.proofs.Heights.{place-in}
 use Rattle.tree.proofs.Stretches.{stretch-root, stretch-child, side-in, pins-of-node, node-of-pins}
 use Rattle.tree.proofs.NodeTimes.{time-above, time-step}
-use Rattle.tree.proofs.NodeFetches.{fetched-at}
+use Rattle.tree.proofs.NodeFetches.{fetched-at, Level, level-fits}
 use Rattle.tree.proofs.Walks.{child-bounds, parent-of, walk-out, walk-on, toward-on, met-fine, met-refused}
 
 -- ---- where a walk stands
@@ -57,6 +57,9 @@ module _ {levels : Levels} {s : List ℕ} {v depth : ℕ} {here : Stretch} {abov
   pub stands-rank : rank (levels .pins) v ≡ here .start + rootPlace (here .pins) - 1
   unfolding rank
   stands-rank = rw (w .under)
+
+  pub stands-level : Fits levels s → v ≤ levels .pins → Level levels s depth
+  stands-level f k = level-fits levels s depth v f (w .low) k
 
   -- what opening the node gives is its time
   pub stands-open : under v (at above) (fetched (getD (levels .codes) depth 0) (min (levels .pins + 1 - 2 ^ depth) (2 ^ depth)) (v - 2 ^ depth)

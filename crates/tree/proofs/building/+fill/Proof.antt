@@ -35,8 +35,9 @@ calls t = (root-place-reads.Asked, root-place-reads.Learnt, stored-value-reads.A
 
 returns : (t : ℕ) → lts.Need-returns (calls t) (given t) reads.Post
 returns t c =
+    let p = c .before .before .before .pre .1 in
     let a = c .before .before .before .args in
-    filled-none (a .times .now) (a .v) (a .values .now) (fill-past (c .before .before .before .args .times .now) (c .before .before .before .args .v) (c .before .before .before .args .start) (c .before .before .before .args .pins) (c .before .before .before .pre .1 .1 .0 .1) (c .before .before .before .pre .1 .1 .1 .0) (c .if1 .taken))
+    filled-none (a .times .now) (a .v) (a .values .now) (fill-past (a .times .now) (a .v) (a .start) (a .pins) (p .1 .0 .1) (p .1 .1 .0) (c .if1 .taken))
 
 root-place-requires : (t : ℕ) → lts.Need-root-place-requires (calls t) (given t) reads.Post
 root-place-requires t c κs = tt
@@ -55,52 +56,70 @@ shared-slice-read-time t c = omega (arith, place-in (c .before .before .before .
 
 stored-value-requires : (t : ℕ) → lts.Need-stored-value-requires (calls t) (given t) reads.Post
 stored-value-requires t c κs =
-    let x : getD (c .before .before .before .before .before .args .times .now) (c .before .before .before .before .before .args .start + c .before .root-place .result - 1) 0 ≡ timeOf (c .before .before .before .before .before .args .times .now) (c .before .before .before .before .before .args .v) =
-    rw (c .before .root-place .ensures) (fill-time (c .before .before .before .before .before .args .times .now) (c .before .before .before .before .before .args .v) (c .before .before .before .before .before .args .start) (c .before .before .before .before .before .args .pins) (c .before .before .before .before .before .pre .1 .1 .0 .1) (c .before .before .before .before .before .pre .1 .1 .1 .0)) in
-    let d = sides (c .before .before .before .before .before .args .times .now) (c .before .before .before .before .before .pre .1 .0) (c .before .before .before .before .before .args .v) (c .before .before .before .before .before .pre .1 .1 .0 .1) (fill-node (c .before .before .before .before .before .args .times .now) (c .before .before .before .before .before .args .v) (c .before .before .before .before .before .args .start) (c .before .before .before .before .before .args .pins) (c .before .before .before .before .before .pre .1 .1 .0 .1) (c .before .before .before .before .before .pre .1 .1 .1 .0) (omega arith)) in
-    rw (x, ← (c .before .before .before .before .before .pre .1 .1 .1 .2)) (d .even, d .odd)
+    let a = c .before .before .before .before .before .args in
+    let p = c .before .before .before .before .before .pre .1 in
+    let x : getD (a .times .now) (a .start + c .before .root-place .result - 1) 0 ≡ timeOf (a .times .now) (a .v) =
+    rw (c .before .root-place .ensures) (fill-time (a .times .now) (a .v) (a .start) (a .pins) (p .1 .0 .1) (p .1 .1 .0)) in
+    let d = sides (a .times .now) (p .0) (a .v) (p .1 .0 .1) (fill-node (a .times .now) (a .v) (a .start) (a .pins) (p .1 .0 .1) (p .1 .1 .0) (omega arith)) in
+    rw (x, ← (p .1 .1 .2)) (d .even, d .odd)
 
 sub-values : (t : ℕ) → lts.Need-sub-values (calls t) (given t) reads.Post
-sub-values t c = omega (arith, fill-node (c .before .before .before .before .before .before .args .times .now) (c .before .before .before .before .before .before .args .v) (c .before .before .before .before .before .before .args .start) (c .before .before .before .before .before .before .args .pins) (c .before .before .before .before .before .before .pre .1 .1 .0 .1) (c .before .before .before .before .before .before .pre .1 .1 .1 .0) (omega arith))
+sub-values t c =
+    let a = c .before .before .before .before .before .before .args in
+    let p = c .before .before .before .before .before .before .pre .1 in
+    omega (arith, fill-node (a .times .now) (a .v) (a .start) (a .pins) (p .1 .0 .1) (p .1 .1 .0) (omega arith))
 
 mul-values : (t : ℕ) → lts.Need-mul-values (calls t) (given t) reads.Post
-mul-values t c = omega (arith, fill-node (c .before .before .before .before .before .before .args .times .now) (c .before .before .before .before .before .before .args .v) (c .before .before .before .before .before .before .args .start) (c .before .before .before .before .before .before .args .pins) (c .before .before .before .before .before .before .pre .1 .1 .0 .1) (c .before .before .before .before .before .before .pre .1 .1 .1 .0) (omega arith))
+mul-values t c =
+    let a = c .before .before .before .before .before .before .args in
+    let p = c .before .before .before .before .before .before .pre .1 in
+    omega (arith, fill-node (a .times .now) (a .v) (a .start) (a .pins) (p .1 .0 .1) (p .1 .1 .0) (omega arith))
 
 slice-write-values : (t : ℕ) → lts.Need-slice-write-values (calls t) (given t) reads.Post
-slice-write-values t c = omega (arith, fill-node (c .before .before .before .before .before .before .args .times .now) (c .before .before .before .before .before .before .args .v) (c .before .before .before .before .before .before .args .start) (c .before .before .before .before .before .before .args .pins) (c .before .before .before .before .before .before .pre .1 .1 .0 .1) (c .before .before .before .before .before .before .pre .1 .1 .1 .0) (omega arith))
+slice-write-values t c =
+    let a = c .before .before .before .before .before .before .args in
+    let p = c .before .before .before .before .before .before .pre .1 in
+    omega (arith, fill-node (a .times .now) (a .v) (a .start) (a .pins) (p .1 .0 .1) (p .1 .1 .0) (omega arith))
 
 same-length : (t : ℕ) → lts.Need-same-length (calls t) (given t) reads.Post
-same-length t c = length-set (c .before .before .before .before .before .before .before .args .values .now) (c .before .before .before .before .before .before .before .args .v - 1) (c .before .stored-value .result)
+same-length t c =
+    let a = c .before .before .before .before .before .before .before .args in
+    length-set (a .values .now) (a .v - 1) (c .before .stored-value .result)
 
 returns-2 : (t : ℕ) → lts.Need-returns-2 (calls t) (given t) reads.Post
 unfolding stored
 returns-2 t c =
+    let p = c .before .before .before .before .before .before .before .pre .1 in
     let a = c .before .before .before .before .before .before .before .args in
-    let x : getD (c .before .before .before .before .before .before .before .args .times .now) (c .before .before .before .before .before .before .before .args .start + c .before .before .before .root-place .result - 1) 0 ≡ timeOf (c .before .before .before .before .before .before .before .args .times .now) (c .before .before .before .before .before .before .before .args .v) =
-    rw (c .before .before .before .root-place .ensures) (fill-time (c .before .before .before .before .before .before .before .args .times .now) (c .before .before .before .before .before .before .before .args .v) (c .before .before .before .before .before .before .before .args .start) (c .before .before .before .before .before .before .before .args .pins) (c .before .before .before .before .before .before .before .pre .1 .1 .0 .1) (c .before .before .before .before .before .before .before .pre .1 .1 .1 .0)) in
-    let d : c .before .stored-value .result ≡ stored (a .times .now) (a .v) = c .before .stored-value .ensures ∙ rw (x, c .before .before .before .before .before .before .before .pre .1 .1 .1 .2) in
-    let k = fill-node (c .before .before .before .before .before .before .before .args .times .now) (c .before .before .before .before .before .before .before .args .v) (c .before .before .before .before .before .before .before .args .start) (c .before .before .before .before .before .before .before .args .pins) (c .before .before .before .before .before .before .before .pre .1 .1 .0 .1) (c .before .before .before .before .before .before .before .pre .1 .1 .1 .0) (omega arith) in
+    let x : getD (a .times .now) (a .start + c .before .before .before .root-place .result - 1) 0 ≡ timeOf (a .times .now) (a .v) =
+    rw (c .before .before .before .root-place .ensures) (fill-time (a .times .now) (a .v) (a .start) (a .pins) (p .1 .0 .1) (p .1 .1 .0)) in
+    let d : c .before .stored-value .result ≡ stored (a .times .now) (a .v) = c .before .stored-value .ensures ∙ rw (x, p .1 .1 .2) in
+    let k = fill-node (a .times .now) (a .v) (a .start) (a .pins) (p .1 .0 .1) (p .1 .1 .0) (omega arith) in
     filled-leaf (a .times .now) (a .v) (a .values .now) (set (a .values .now) (a .v - 1) (c .before .stored-value .result))
-    (c .before .before .before .before .before .before .before .pre .1 .1 .0 .1) k (omega (arith, c .before .before .before .before .before .before .before .pre .1 .1 .0 .0)) (ap (set (a .values .now) (a .v - 1)) d) (fill-leaf (c .before .before .before .before .before .before .before .args .times .now) (c .before .before .before .before .before .before .before .args .v) (c .before .before .before .before .before .before .before .args .start) (c .before .before .before .before .before .before .before .args .pins) (c .before .before .before .before .before .before .before .pre .1 .1 .0 .1) (c .before .before .before .before .before .before .before .pre .1 .1 .1 .0) (c .if2 .taken))
+    (p .1 .0 .1) k (omega (arith, p .1 .0 .0)) (ap (set (a .values .now) (a .v - 1)) d) (fill-leaf (a .times .now) (a .v) (a .start) (a .pins) (p .1 .0 .1) (p .1 .1 .0) (c .if2 .taken))
 
 sub-fill : (t : ℕ) → lts.Need-sub-fill (calls t) (given t) reads.Post
 sub-fill t c = omega (arith, place-in (c .before .before .before .before .before .before .before .before .args .pins) (omega arith))
 
 mul-fill : (t : ℕ) → lts.Need-mul-fill (calls t) (given t) reads.Post
-mul-fill t c = omega (arith, fill-node (c .before .before .before .before .before .before .before .before .args .times .now) (c .before .before .before .before .before .before .before .before .args .v) (c .before .before .before .before .before .before .before .before .args .start) (c .before .before .before .before .before .before .before .before .args .pins) (c .before .before .before .before .before .before .before .before .pre .1 .1 .0 .1) (c .before .before .before .before .before .before .before .before .pre .1 .1 .1 .0) (omega arith))
+mul-fill t c =
+    let a = c .before .before .before .before .before .before .before .before .args in
+    let p = c .before .before .before .before .before .before .before .before .pre .1 in
+    omega (arith, fill-node (a .times .now) (a .v) (a .start) (a .pins) (p .1 .0 .1) (p .1 .1 .0) (omega arith))
 
 fill-requires : (t : ℕ) → lts.Need-fill-requires (calls t) (given t) reads.Post
 fill-requires t c κs =
+    let p = c .before .before .before .before .before .before .before .before .pre .1 in
     let a = c .before .before .before .before .before .before .before .before .args in
-    let x : getD (c .before .before .before .before .before .before .before .before .args .times .now) (c .before .before .before .before .before .before .before .before .args .start + c .before .before .before .before .root-place .result - 1) 0 ≡ timeOf (c .before .before .before .before .before .before .before .before .args .times .now) (c .before .before .before .before .before .before .before .before .args .v) =
-    rw (c .before .before .before .before .root-place .ensures) (fill-time (c .before .before .before .before .before .before .before .before .args .times .now) (c .before .before .before .before .before .before .before .before .args .v) (c .before .before .before .before .before .before .before .before .args .start) (c .before .before .before .before .before .before .before .before .args .pins) (c .before .before .before .before .before .before .before .before .pre .1 .1 .0 .1) (c .before .before .before .before .before .before .before .before .pre .1 .1 .1 .0)) in
-    let p = place-in (c .before .before .before .before .before .before .before .before .args .pins) (omega arith) in (
+    let x : getD (a .times .now) (a .start + c .before .before .before .before .root-place .result - 1) 0 ≡ timeOf (a .times .now) (a .v) =
+    rw (c .before .before .before .before .root-place .ensures) (fill-time (a .times .now) (a .v) (a .start) (a .pins) (p .1 .0 .1) (p .1 .1 .0)) in
+    let q = place-in (a .pins) (omega arith) in (
       omega (arith, c .before .before .before .before .before .before .before .before .pre .0),
       (
-        c .before .before .before .before .before .before .before .before .pre .1 .0,
+        p .0,
         (
-          (rw length-set (c .before .before .before .before .before .before .before .before .pre .1 .1 .0 .0), omega arith),
-          (rw (c .before .before .before .before .root-place .ensures) (is-left (length (c .before .before .before .before .before .before .before .before .args .times .now)) (c .before .before .before .before .before .before .before .before .args .v) (c .before .before .before .before .before .before .before .before .args .start) (c .before .before .before .before .before .before .before .before .args .pins) (c .before .before .before .before .before .before .before .before .pre .1 .1 .0 .1) (c .before .before .before .before .before .before .before .before .pre .1 .1 .1 .0)), omega arith, above-left (a .times .now) (a .v) (c .before .before .before .before .before .before .before .before .pre .1 .1 .0 .1) ∙ sym x),
+          (rw length-set (p .1 .0 .0), omega arith),
+          (rw (c .before .before .before .before .root-place .ensures) (is-left (length (a .times .now)) (a .v) (a .start) (a .pins) (p .1 .0 .1) (p .1 .1 .0)), omega arith, above-left (a .times .now) (a .v) (p .1 .0 .1) ∙ sym x),
         ),
       ),
     )
@@ -112,41 +131,51 @@ sub-fill-2 : (t : ℕ) → lts.Need-sub-fill-2 (calls t) (given t) reads.Post
 sub-fill-2 t c = omega (arith, place-in (c .before .before .before .before .before .before .before .before .before .before .before .before .args .pins) (omega arith))
 
 mul-fill-2 : (t : ℕ) → lts.Need-mul-fill-2 (calls t) (given t) reads.Post
-mul-fill-2 t c = omega (arith, fill-node (c .before .before .before .before .before .before .before .before .before .before .before .before .args .times .now) (c .before .before .before .before .before .before .before .before .before .before .before .before .args .v) (c .before .before .before .before .before .before .before .before .before .before .before .before .args .start) (c .before .before .before .before .before .before .before .before .before .before .before .before .args .pins) (c .before .before .before .before .before .before .before .before .before .before .before .before .pre .1 .1 .0 .1) (c .before .before .before .before .before .before .before .before .before .before .before .before .pre .1 .1 .1 .0) (omega arith))
+mul-fill-2 t c =
+    let a = c .before .before .before .before .before .before .before .before .before .before .before .before .args in
+    let p = c .before .before .before .before .before .before .before .before .before .before .before .before .pre .1 in
+    omega (arith, fill-node (a .times .now) (a .v) (a .start) (a .pins) (p .1 .0 .1) (p .1 .1 .0) (omega arith))
 
 add-fill-2 : (t : ℕ) → lts.Need-add-fill-2 (calls t) (given t) reads.Post
-add-fill-2 t c = omega (arith, fill-node (c .before .before .before .before .before .before .before .before .before .before .before .before .args .times .now) (c .before .before .before .before .before .before .before .before .before .before .before .before .args .v) (c .before .before .before .before .before .before .before .before .before .before .before .before .args .start) (c .before .before .before .before .before .before .before .before .before .before .before .before .args .pins) (c .before .before .before .before .before .before .before .before .before .before .before .before .pre .1 .1 .0 .1) (c .before .before .before .before .before .before .before .before .before .before .before .before .pre .1 .1 .1 .0) (omega arith))
+add-fill-2 t c =
+    let a = c .before .before .before .before .before .before .before .before .before .before .before .before .args in
+    let p = c .before .before .before .before .before .before .before .before .before .before .before .before .pre .1 in
+    omega (arith, fill-node (a .times .now) (a .v) (a .start) (a .pins) (p .1 .0 .1) (p .1 .1 .0) (omega arith))
 
 fill-requires-2 : (t : ℕ) → lts.Need-fill-requires-2 (calls t) (given t) reads.Post
 fill-requires-2 t c κs =
+    let p = c .before .before .before .before .before .before .before .before .before .before .before .before .pre .1 in
     let a = c .before .before .before .before .before .before .before .before .before .before .before .before .args in
-    let x : getD (c .before .before .before .before .before .before .before .before .before .before .before .before .args .times .now) (c .before .before .before .before .before .before .before .before .before .before .before .before .args .start + c .before .before .before .before .before .before .before .before .root-place .result - 1) 0 ≡ timeOf (c .before .before .before .before .before .before .before .before .before .before .before .before .args .times .now) (c .before .before .before .before .before .before .before .before .before .before .before .before .args .v) =
-    rw (c .before .before .before .before .before .before .before .before .root-place .ensures) (fill-time (c .before .before .before .before .before .before .before .before .before .before .before .before .args .times .now) (c .before .before .before .before .before .before .before .before .before .before .before .before .args .v) (c .before .before .before .before .before .before .before .before .before .before .before .before .args .start) (c .before .before .before .before .before .before .before .before .before .before .before .before .args .pins) (c .before .before .before .before .before .before .before .before .before .before .before .before .pre .1 .1 .0 .1) (c .before .before .before .before .before .before .before .before .before .before .before .before .pre .1 .1 .1 .0)) in
-    let p = place-in (c .before .before .before .before .before .before .before .before .before .before .before .before .args .pins) (omega arith) in
-    let room : length (a .times .now) ≤ length (c .before .before .before .fill .last .0) = rw (c .before .before .before .fill .kept .0, length-set) (c .before .before .before .before .before .before .before .before .before .before .before .before .pre .1 .1 .0 .0) in (
+    let x : getD (a .times .now) (a .start + c .before .before .before .before .before .before .before .before .root-place .result - 1) 0 ≡ timeOf (a .times .now) (a .v) =
+    rw (c .before .before .before .before .before .before .before .before .root-place .ensures) (fill-time (a .times .now) (a .v) (a .start) (a .pins) (p .1 .0 .1) (p .1 .1 .0)) in
+    let q = place-in (a .pins) (omega arith) in
+    let room : length (a .times .now) ≤ length (c .before .before .before .fill .last .0) = rw (c .before .before .before .fill .kept .0, length-set) (p .1 .0 .0) in (
       omega (arith, c .before .before .before .before .before .before .before .before .before .before .before .before .pre .0),
       (
-        c .before .before .before .before .before .before .before .before .before .before .before .before .pre .1 .0,
+        p .0,
         (
           (room, omega arith),
-          (rw (c .before .before .before .before .before .before .before .before .root-place .ensures) (is-right (length (c .before .before .before .before .before .before .before .before .before .before .before .before .args .times .now)) (c .before .before .before .before .before .before .before .before .before .before .before .before .args .v) (c .before .before .before .before .before .before .before .before .before .before .before .before .args .start) (c .before .before .before .before .before .before .before .before .before .before .before .before .args .pins) (c .before .before .before .before .before .before .before .before .before .before .before .before .pre .1 .1 .0 .1) (c .before .before .before .before .before .before .before .before .before .before .before .before .pre .1 .1 .1 .0)), omega arith, above-right (a .times .now) (a .v) (c .before .before .before .before .before .before .before .before .before .before .before .before .pre .1 .1 .0 .1) ∙ sym x),
+          (rw (c .before .before .before .before .before .before .before .before .root-place .ensures) (is-right (length (a .times .now)) (a .v) (a .start) (a .pins) (p .1 .0 .1) (p .1 .1 .0)), omega arith, above-right (a .times .now) (a .v) (p .1 .0 .1) ∙ sym x),
         ),
       ),
     )
 
 same-length-2 : (t : ℕ) → lts.Need-same-length-2 (calls t) (given t) reads.Post
-same-length-2 t c = c .before .before .fill2 .kept .0 ∙ c .before .before .before .before .before .before .fill .kept .0 ∙ length-set (c .before .before .before .before .before .before .before .before .before .before .before .before .before .before .before .args .values .now) (c .before .before .before .before .before .before .before .before .before .before .before .before .before .before .before .args .v - 1) (c .before .before .before .before .before .before .before .before .before .stored-value .result)
+same-length-2 t c =
+    let a = c .before .before .before .before .before .before .before .before .before .before .before .before .before .before .before .args in
+    c .before .before .fill2 .kept .0 ∙ c .before .before .before .before .before .before .fill .kept .0 ∙ length-set (a .values .now) (a .v - 1) (c .before .before .before .before .before .before .before .before .before .stored-value .result)
 
 returns-3 : (t : ℕ) → lts.Need-returns-3 (calls t) (given t) reads.Post
 unfolding stored
 returns-3 t c =
+    let p = c .before .before .before .before .before .before .before .before .before .before .before .before .before .before .before .pre .1 in
     let a = c .before .before .before .before .before .before .before .before .before .before .before .before .before .before .before .args in
-    let x : getD (c .before .before .before .before .before .before .before .before .before .before .before .before .before .before .before .args .times .now) (c .before .before .before .before .before .before .before .before .before .before .before .before .before .before .before .args .start + c .before .before .before .before .before .before .before .before .before .before .before .root-place .result - 1) 0 ≡ timeOf (c .before .before .before .before .before .before .before .before .before .before .before .before .before .before .before .args .times .now) (c .before .before .before .before .before .before .before .before .before .before .before .before .before .before .before .args .v) =
-    rw (c .before .before .before .before .before .before .before .before .before .before .before .root-place .ensures) (fill-time (c .before .before .before .before .before .before .before .before .before .before .before .before .before .before .before .args .times .now) (c .before .before .before .before .before .before .before .before .before .before .before .before .before .before .before .args .v) (c .before .before .before .before .before .before .before .before .before .before .before .before .before .before .before .args .start) (c .before .before .before .before .before .before .before .before .before .before .before .before .before .before .before .args .pins) (c .before .before .before .before .before .before .before .before .before .before .before .before .before .before .before .pre .1 .1 .0 .1) (c .before .before .before .before .before .before .before .before .before .before .before .before .before .before .before .pre .1 .1 .1 .0)) in
-    let d : c .before .before .before .before .before .before .before .before .before .stored-value .result ≡ stored (a .times .now) (a .v) = c .before .before .before .before .before .before .before .before .before .stored-value .ensures ∙ rw (x, c .before .before .before .before .before .before .before .before .before .before .before .before .before .before .before .pre .1 .1 .1 .2) in
-    let k = fill-node (c .before .before .before .before .before .before .before .before .before .before .before .before .before .before .before .args .times .now) (c .before .before .before .before .before .before .before .before .before .before .before .before .before .before .before .args .v) (c .before .before .before .before .before .before .before .before .before .before .before .before .before .before .before .args .start) (c .before .before .before .before .before .before .before .before .before .before .before .before .before .before .before .args .pins) (c .before .before .before .before .before .before .before .before .before .before .before .before .before .before .before .pre .1 .1 .0 .1) (c .before .before .before .before .before .before .before .before .before .before .before .before .before .before .before .pre .1 .1 .1 .0) (omega arith) in
+    let x : getD (a .times .now) (a .start + c .before .before .before .before .before .before .before .before .before .before .before .root-place .result - 1) 0 ≡ timeOf (a .times .now) (a .v) =
+    rw (c .before .before .before .before .before .before .before .before .before .before .before .root-place .ensures) (fill-time (a .times .now) (a .v) (a .start) (a .pins) (p .1 .0 .1) (p .1 .1 .0)) in
+    let d : c .before .before .before .before .before .before .before .before .before .stored-value .result ≡ stored (a .times .now) (a .v) = c .before .before .before .before .before .before .before .before .before .stored-value .ensures ∙ rw (x, p .1 .1 .2) in
+    let k = fill-node (a .times .now) (a .v) (a .start) (a .pins) (p .1 .0 .1) (p .1 .1 .0) (omega arith) in
     filled-node (a .times .now) (a .v) (a .values .now) (set (a .values .now) (a .v - 1) (c .before .before .before .before .before .before .before .before .before .stored-value .result)) (c .before .before .before .before .before .before .fill .last .0) (c .before .before .fill2 .last .0)
-    (c .before .before .before .before .before .before .before .before .before .before .before .before .before .before .before .pre .1 .1 .0 .1) k (omega (arith, c .before .before .before .before .before .before .before .before .before .before .before .before .before .before .before .pre .1 .1 .0 .0)) (ap (set (a .values .now) (a .v - 1)) d) (c .before .before .before .before .before .before .fill .ensures) (c .before .before .fill2 .ensures)
+    (p .1 .0 .1) k (omega (arith, p .1 .0 .0)) (ap (set (a .values .now) (a .v - 1)) d) (c .before .before .before .before .before .before .fill .ensures) (c .before .before .fill2 .ensures)
 
 pub +fill-spec : {M : Type 1} → statement M
 +fill-spec = close μ λ t. lts.spec (calls t)

@@ -36,10 +36,16 @@ root-place-requires : (t : ℕ) → lts.Need-root-place-requires (calls t) (give
 root-place-requires t c κs = tt
 
 add-result : (t : ℕ) → lts.Need-add-result (calls t) (given t) reads.Post
-add-result t c = omega (arith, shift-place (c .before .before .args .v) (c .before .before .args .depth) (c .before .before .pre .1 .0 .2) (c .before .before .pre .1 .1 .0) (c .before .before .args .start) (c .before .before .args .pins) (c .before .before .pre .1 .1 .1) (c .before .before .pre .1 .1 .2))
+add-result t c =
+    let a = c .before .before .args in
+    let p = c .before .before .pre .1 in
+    omega (arith, shift-place (a .v) (a .depth) (p .0 .2) (p .1 .0) (a .start) (a .pins) (p .1 .1) (p .1 .2))
 
 sub-result : (t : ℕ) → lts.Need-sub-result (calls t) (given t) reads.Post
-sub-result t c = omega (arith, shift-place (c .before .before .args .v) (c .before .before .args .depth) (c .before .before .pre .1 .0 .2) (c .before .before .pre .1 .1 .0) (c .before .before .args .start) (c .before .before .args .pins) (c .before .before .pre .1 .1 .1) (c .before .before .pre .1 .1 .2))
+sub-result t c =
+    let a = c .before .before .args in
+    let p = c .before .before .pre .1 in
+    omega (arith, shift-place (a .v) (a .depth) (p .0 .2) (p .1 .0) (a .start) (a .pins) (p .1 .1) (p .1 .2))
 
 returns : (t : ℕ) → lts.Need-returns (calls t) (given t) reads.Post
 returns t c =
@@ -55,7 +61,10 @@ shr-side-of : (t : ℕ) → lts.Need-shr-side-of (calls t) (given t) reads.Post
 shr-side-of t c = omega arith
 
 side-of-requires : (t : ℕ) → lts.Need-side-of-requires (calls t) (given t) reads.Post
-side-of-requires t c κs = omega (arith, shift-place (c .before .before .args .v) (c .before .before .args .depth) (c .before .before .pre .1 .0 .2) (c .before .before .pre .1 .1 .0) (c .before .before .args .start) (c .before .before .args .pins) (c .before .before .pre .1 .1 .1) (c .before .before .pre .1 .1 .2))
+side-of-requires t c κs =
+    let a = c .before .before .args in
+    let p = c .before .before .pre .1 in
+    omega (arith, shift-place (a .v) (a .depth) (p .0 .2) (p .1 .0) (a .start) (a .pins) (p .1 .1) (p .1 .2))
 
 sub-rank-under : (t : ℕ) → lts.Need-sub-rank-under (calls t) (given t) reads.Post
 sub-rank-under t c = omega arith
@@ -64,13 +73,16 @@ rank-under-requires : (t : ℕ) → lts.Need-rank-under-requires (calls t) (give
 rank-under-requires t c κs =
     let a = c .before .before .before .args in
     let p = c .before .before .before .pre .1 in
-    let r = shift-place (c .before .before .before .args .v) (c .before .before .before .args .depth) (c .before .before .before .pre .1 .0 .2) (c .before .before .before .pre .1 .1 .0) (c .before .before .before .args .start) (c .before .before .before .args .pins) (c .before .before .before .pre .1 .1 .1) (c .before .before .before .pre .1 .1 .2) in
+    let r = shift-place (a .v) (a .depth) (p .0 .2) (p .1 .0) (a .start) (a .pins) (p .1 .1) (p .1 .2) in
     let i = side-in (eqb (a .v / 2 ^ (a .depth - 1) % 2) 1) (record { start = a .start; pins = a .pins }) (omega arith) in
     rw (c .side-of .ensures)
-    (omega (arith, c .before .before .before .pre .0), ((omega arith, omega arith, shift-some (c .before .before .before .args .v) (c .before .before .before .args .depth) (c .before .before .before .pre .1 .0 .2) (omega arith)), (p .1 .0, p .1 .1, shift-side (c .before .before .before .args .v) (c .before .before .before .args .depth) (c .before .before .before .pre .1 .0 .2) (omega arith) (p .1 .0) (c .before .before .before .args .start) (c .before .before .before .args .pins) (p .1 .2))))
+    (omega (arith, c .before .before .before .pre .0), ((omega arith, omega arith, shift-some (a .v) (a .depth) (p .0 .2) (omega arith)), (p .1 .0, p .1 .1, shift-side (a .v) (a .depth) (p .0 .2) (omega arith) (p .1 .0) (a .start) (a .pins) (p .1 .2))))
 
 returns-2 : (t : ℕ) → lts.Need-returns-2 (calls t) (given t) reads.Post
-returns-2 t c = λ n e. c .rank-under .ensures n (rw (c .before .side-of .ensures) (shift-side (c .before .before .before .before .args .v) (c .before .before .before .before .args .depth) (c .before .before .before .before .pre .1 .0 .2) (omega arith) n (c .before .before .before .before .args .start) (c .before .before .before .before .args .pins) e))
+returns-2 t c =
+    let a = c .before .before .before .before .args in
+    let p = c .before .before .before .before .pre .1 in
+    λ n e. c .rank-under .ensures n (rw (c .before .side-of .ensures) (shift-side (a .v) (a .depth) (p .0 .2) (omega arith) n (a .start) (a .pins) e))
 
 pub +rank-under-spec : {M : Type 1} → statement M
 +rank-under-spec = close μ λ t. lts.spec (calls t)

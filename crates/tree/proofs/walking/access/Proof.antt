@@ -9,8 +9,7 @@ use Rattle.tree.specs.Levels.{fetchedAt}
 use Rattle.tree.specs.Times.{at, nodeTime, timeOpened}
 use Rattle.tree.specs.Walks.{accessAnswer}
 use Rattle.tree.proofs.Stretches.{side-in}
-use Rattle.tree.proofs.NodeFetches.{level-fits}
-use Rattle.tree.proofs.Steps.{Stands, stands-root, stands-node, stands-rank, stands-open, stands-child, side-holds, accessFrom, access-start, access-end, access-refused, access-step}
+use Rattle.tree.proofs.Steps.{Stands, stands-root, stands-node, stands-rank, stands-level, stands-open, stands-child, side-holds, accessFrom, access-start, access-end, access-refused, access-step}
 use Prim.Native.Nat.{_+_, _-_, _≤_, _<_}
 use Rattle.tree.proofs.Heights.{place-in}
 use Rattle.tree.proofs.walking.access.Statement.{statement}
@@ -30,39 +29,47 @@ loop-holds c =
     (stands-root (a .t2) (a .s .now), refl, omega arith, omega (arith, c .before .pre .1), sym (access-start (a .t2 .pins) (nodeTime (fetchedAt (a .t2) (a .s .now))) (a .i)))
 
 mul-start : tie.Need-mul-start Inv-loop μ-loop
-mul-start c = omega (arith, level-fits (c .before .before .args .t2) (c .before .before .args .s .now) (c .loop .depth) (c .loop .v) (c .before .before .pre .0) (c .loop .inv .0 .low) (stands-node (c .loop .inv .0) (omega arith)))
+mul-start c = omega (arith, stands-level (c .loop .inv .0) (c .before .before .pre .0) (stands-node (c .loop .inv .0) (omega arith)))
 
 element-copy-out-start : tie.Need-element-copy-out-start Inv-loop μ-loop
-element-copy-out-start c = omega (arith, level-fits (c .before .before .args .t2) (c .before .before .args .s .now) (c .loop .depth) (c .loop .v) (c .before .before .pre .0) (c .loop .inv .0 .low) (stands-node (c .loop .inv .0) (omega arith)))
+element-copy-out-start c = omega (arith, stands-level (c .loop .inv .0) (c .before .before .pre .0) (stands-node (c .loop .inv .0) (omega arith)))
 
 add-end : tie.Need-add-end Inv-loop μ-loop
-add-end c = omega (arith, level-fits (c .before .before .before .args .t2) (c .before .before .before .args .s .now) (c .before .loop .depth) (c .before .loop .v) (c .before .before .before .pre .0) (c .before .loop .inv .0 .low) (stands-node (c .before .loop .inv .0) (omega arith)))
+add-end c = omega (arith, stands-level (c .before .loop .inv .0) (c .before .before .before .pre .0) (stands-node (c .before .loop .inv .0) (omega arith)))
 
 mul-end : tie.Need-mul-end Inv-loop μ-loop
-mul-end c = omega (arith, level-fits (c .before .before .before .args .t2) (c .before .before .before .args .s .now) (c .before .loop .depth) (c .before .loop .v) (c .before .before .before .pre .0) (c .before .loop .inv .0 .low) (stands-node (c .before .loop .inv .0) (omega arith)))
+mul-end c = omega (arith, stands-level (c .before .loop .inv .0) (c .before .before .before .pre .0) (stands-node (c .before .loop .inv .0) (omega arith)))
 
 element-copy-out-end : tie.Need-element-copy-out-end Inv-loop μ-loop
-element-copy-out-end c = omega (arith, level-fits (c .before .before .before .args .t2) (c .before .before .before .args .s .now) (c .before .loop .depth) (c .before .loop .v) (c .before .before .before .pre .0) (c .before .loop .inv .0 .low) (stands-node (c .before .loop .inv .0) (omega arith)))
+element-copy-out-end c = omega (arith, stands-level (c .before .loop .inv .0) (c .before .before .before .pre .0) (stands-node (c .before .loop .inv .0) (omega arith)))
 
 element-copy-out-code : tie.Need-element-copy-out-code Inv-loop μ-loop
-element-copy-out-code c = omega (arith, level-fits (c .before .before .before .before .args .t2) (c .before .before .before .before .args .s .now) (c .before .before .loop .depth) (c .before .before .loop .v) (c .before .before .before .before .pre .0) (c .before .before .loop .inv .0 .low) (stands-node (c .before .before .loop .inv .0) (omega arith)))
+element-copy-out-code c = omega (arith, stands-level (c .before .before .loop .inv .0) (c .before .before .before .before .pre .0) (stands-node (c .before .before .loop .inv .0) (omega arith)))
 
 add-nodes : tie.Need-add-nodes Inv-loop μ-loop
-add-nodes c = omega (arith, level-fits (c .before .before .before .before .before .args .t2) (c .before .before .before .before .before .args .s .now) (c .before .before .before .loop .depth) (c .before .before .before .loop .v) (c .before .before .before .before .before .pre .0) (c .before .before .before .loop .inv .0 .low) (stands-node (c .before .before .before .loop .inv .0) (omega arith)))
+add-nodes c =
+    let w = c .before .before .before .loop .inv .0 in
+    omega (arith, stands-level w (c .before .before .before .before .before .pre .0) (stands-node w (omega arith)))
 
 sub-open-node : tie.Need-sub-open-node Inv-loop μ-loop
-sub-open-node c = omega (arith, level-fits (c .before .before .before .before .before .args .t2) (c .before .before .before .before .before .args .s .now) (c .before .before .before .loop .depth) (c .before .before .before .loop .v) (c .before .before .before .before .before .pre .0) (c .before .before .before .loop .inv .0 .low) (stands-node (c .before .before .before .loop .inv .0) (omega arith)))
+sub-open-node c =
+    let w = c .before .before .before .loop .inv .0 in
+    omega (arith, stands-level w (c .before .before .before .before .before .pre .0) (stands-node w (omega arith)))
 
 part-open-node-start : tie.Need-part-open-node-start Inv-loop μ-loop
-part-open-node-start c = omega (arith, level-fits (c .before .before .before .before .before .args .t2) (c .before .before .before .before .before .args .s .now) (c .before .before .before .loop .depth) (c .before .before .before .loop .v) (c .before .before .before .before .before .pre .0) (c .before .before .before .loop .inv .0 .low) (stands-node (c .before .before .before .loop .inv .0) (omega arith)))
+part-open-node-start c =
+    let w = c .before .before .before .loop .inv .0 in
+    omega (arith, stands-level w (c .before .before .before .before .before .pre .0) (stands-node w (omega arith)))
 
 part-open-node-end : tie.Need-part-open-node-end Inv-loop μ-loop
-part-open-node-end c = omega (arith, level-fits (c .before .before .before .before .before .args .t2) (c .before .before .before .before .before .args .s .now) (c .before .before .before .loop .depth) (c .before .before .before .loop .v) (c .before .before .before .before .before .pre .0) (c .before .before .before .loop .inv .0 .low) (stands-node (c .before .before .before .loop .inv .0) (omega arith)))
+part-open-node-end c =
+    let w = c .before .before .before .loop .inv .0 in
+    omega (arith, stands-level w (c .before .before .before .before .before .pre .0) (stands-node w (omega arith)))
 
 open-node-requires : tie.Need-open-node-requires Inv-loop μ-loop
 open-node-requires c κs =
     let w = c .before .before .before .before .loop .inv .0 in
-    let f = level-fits (c .before .before .before .before .before .before .args .t2) (c .before .before .before .before .before .before .args .s .now) (c .before .before .before .before .loop .depth) (c .before .before .before .before .loop .v) (c .before .before .before .before .before .before .pre .0) (c .before .before .before .before .loop .inv .0 .low) (stands-node (c .before .before .before .before .loop .inv .0) (omega arith)) in
+    let f = stands-level (c .before .before .before .before .loop .inv .0) (c .before .before .before .before .before .before .pre .0) (stands-node (c .before .before .before .before .loop .inv .0) (omega arith)) in
     (w .low, w .high, stands-node (c .before .before .before .before .loop .inv .0) (omega arith), omega arith, simp length-take (omega arith))
 
 enum-known-opened : tie.Need-enum-known-opened Inv-loop μ-loop
@@ -73,10 +80,11 @@ enum-known-opened-2 c = search needs
 
 returns : tie.Need-returns Inv-loop μ-loop
 returns c =
+    let w = c .before .before .before .before .before .before .before .before .loop .inv .0 in
     let a = c .before .before .before .before .before .before .before .before .before .before .args in
     let l = c .before .before .before .before .before .before .before .before .loop in
     let e = sym (stands-open (l .inv .0)) ∙ sym (c .before .before .before .open-node .ensures) ∙ ap timeOpened (c .before .opened2 .given .1) in
-    sym (access-refused (a .t2 .pins) (nodeTime (fetchedAt (a .t2) (a .s .now))) (a .i) (l .nodes) (l .v) _ _ (l .inv .0 .one) (stands-node (c .before .before .before .before .before .before .before .before .loop .inv .0) (omega arith)) e) ∙ l .inv .4
+    sym (access-refused (a .t2 .pins) (nodeTime (fetchedAt (a .t2) (a .s .now))) (a .i) (l .nodes) (l .v) _ _ (l .inv .0 .one) (stands-node w (omega arith)) e) ∙ l .inv .4
 
 root-place-requires : tie.Need-root-place-requires Inv-loop μ-loop
 root-place-requires c κs = tt
@@ -89,28 +97,35 @@ sub-rank c = omega (arith, place-in (c .before .before .before .before .before .
 
 returns-2 : tie.Need-returns-2 Inv-loop μ-loop
 returns-2 c =
+    let w = c .before .before .before .before .before .before .before .before .before .before .before .loop .inv .0 in
     let a = c .before .before .before .before .before .before .before .before .before .before .before .before .before .args in
     let l = c .before .before .before .before .before .before .before .before .before .before .before .loop in
     let e = sym (stands-open (l .inv .0)) ∙ sym (c .before .before .before .before .before .before .open-node .ensures) ∙ ap timeOpened (c .before .before .before .before .opened .given .1) in
     let r : rank (a .t2 .pins) (l .v) ≡ a .i = stands-rank (l .inv .0) ∙ omega arith in
-    sym (access-end (a .t2 .pins) (nodeTime (fetchedAt (a .t2) (a .s .now))) (a .i) (l .nodes) (l .v) (c .before .before .before .before .opened .given .0 .0) (l .inv .0 .one) (stands-node (c .before .before .before .before .before .before .before .before .before .before .before .loop .inv .0) (omega arith)) e r) ∙ l .inv .4
+    sym (access-end (a .t2 .pins) (nodeTime (fetchedAt (a .t2) (a .s .now))) (a .i) (l .nodes) (l .v) (c .before .before .before .before .opened .given .0 .0) (l .inv .0 .one) (stands-node w (omega arith)) e r) ∙ l .inv .4
 
 side-of-requires : tie.Need-side-of-requires Inv-loop μ-loop
 side-of-requires c κs = omega (arith, place-in (c .before .before .before .before .before .before .before .before .before .before .before .loop .here .pins) (omega arith), c .before .before .before .before .before .before .before .before .before .before .before .loop .inv .0 .inside)
 
 child-of-requires : tie.Need-child-of-requires Inv-loop μ-loop
-child-of-requires c κs = omega (arith, stands-node (c .before .before .before .before .before .before .before .before .before .before .before .before .loop .inv .0) (omega arith), level-fits (c .before .before .before .before .before .before .before .before .before .before .before .before .before .before .args .t2) (c .before .before .before .before .before .before .before .before .before .before .before .before .before .before .args .s .now) (c .before .before .before .before .before .before .before .before .before .before .before .before .loop .depth) (c .before .before .before .before .before .before .before .before .before .before .before .before .loop .v) (c .before .before .before .before .before .before .before .before .before .before .before .before .before .before .pre .0) (c .before .before .before .before .before .before .before .before .before .before .before .before .loop .inv .0 .low) (stands-node (c .before .before .before .before .before .before .before .before .before .before .before .before .loop .inv .0) (omega arith)))
+child-of-requires c κs =
+    let w = c .before .before .before .before .before .before .before .before .before .before .before .before .loop .inv .0 in
+    omega (arith, stands-node w (omega arith), stands-level w (c .before .before .before .before .before .before .before .before .before .before .before .before .before .before .pre .0) (stands-node w (omega arith)))
 
 add-depth : tie.Need-add-depth Inv-loop μ-loop
-add-depth c = omega (arith, level-fits (c .before .before .before .before .before .before .before .before .before .before .before .before .before .before .before .args .t2) (c .before .before .before .before .before .before .before .before .before .before .before .before .before .before .before .args .s .now) (c .before .before .before .before .before .before .before .before .before .before .before .before .before .loop .depth) (c .before .before .before .before .before .before .before .before .before .before .before .before .before .loop .v) (c .before .before .before .before .before .before .before .before .before .before .before .before .before .before .before .pre .0) (c .before .before .before .before .before .before .before .before .before .before .before .before .before .loop .inv .0 .low) (stands-node (c .before .before .before .before .before .before .before .before .before .before .before .before .before .loop .inv .0) (omega arith)))
+add-depth c =
+    let w = c .before .before .before .before .before .before .before .before .before .before .before .before .before .loop .inv .0 in
+    omega (arith, stands-level w (c .before .before .before .before .before .before .before .before .before .before .before .before .before .before .before .pre .0) (stands-node w (omega arith)))
 
 loop-less : tie.Need-loop-less Inv-loop μ-loop
 loop-less c =
+    let a = c .before .before .before .before .before .before .before .before .before .before .before .before .before .before .before .args in
     let l = c .before .before .before .before .before .before .before .before .before .before .before .before .before .loop in
-    rw (c .before .side-of .ensures) (side-in (ltb (l .here .start + c .before .before .before .before .root-place .result - 1) (c .before .before .before .before .before .before .before .before .before .before .before .before .before .before .before .args .i)) (l .here) (omega arith) .0)
+    rw (c .before .side-of .ensures) (side-in (ltb (l .here .start + c .before .before .before .before .root-place .result - 1) (a .i)) (l .here) (omega arith) .0)
 
 loop-again : tie.Need-loop-again Inv-loop μ-loop
 loop-again c =
+    let w = c .before .before .before .before .before .before .before .before .before .before .before .before .before .loop .inv .0 in
     let a = c .before .before .before .before .before .before .before .before .before .before .before .before .before .before .before .args in
     let l = c .before .before .before .before .before .before .before .before .before .before .before .before .before .loop in
     let n = a .t2 .pins in
@@ -119,7 +134,7 @@ loop-again c =
     let e : time (l .v) ≡ at x = sym (stands-open (l .inv .0)) ∙ sym (c .before .before .before .before .before .before .before .before .open-node .ensures) ∙ ap timeOpened (c .before .before .before .before .before .before .opened .given .1) in
     let r : l .here .start + c .before .before .before .before .root-place .result - 1 ≡ rank n (l .v) = sym (stands-rank (l .inv .0) ∙ omega arith) in
     let ne : rank n (l .v) ≡ a .i → ⊥ = λ z. c .before .before .if1 .left (r ∙ z) in
-    let k = stands-node (c .before .before .before .before .before .before .before .before .before .before .before .before .before .loop .inv .0) (omega arith) in
+    let k = stands-node w (omega arith) in
     let h = side-holds (l .here) (a .i) (rank n (l .v)) (stands-rank (l .inv .0)) (l .inv .2) (l .inv .3) ne in
     rw (c .child-of .ensures, c .before .side-of .ensures, r) (
       stands-child (l .inv .0) (ltb (rank n (l .v)) (a .i)) x k e,

@@ -9,8 +9,7 @@ use Rattle.tree.specs.Levels.{fetchedAt}
 use Rattle.tree.specs.Times.{at, nodeTime, timeOpened}
 use Rattle.tree.specs.Walks.{searchAnswer}
 use Rattle.tree.proofs.Stretches.{side-in}
-use Rattle.tree.proofs.NodeFetches.{level-fits}
-use Rattle.tree.proofs.Steps.{Stands, stands-root, stands-pins, stands-place, stands-rank, stands-open, stands-child, searchFrom, search-start, search-end, search-refused, search-step}
+use Rattle.tree.proofs.Steps.{Stands, stands-root, stands-pins, stands-place, stands-rank, stands-level, stands-open, stands-child, searchFrom, search-start, search-end, search-refused, search-step}
 use mathlib.Core.Logic.{⊎-elim}
 use mathlib.Core.Bool.{cond}
 use borrow.Author.Tests.{lt-ltb, le-ltb}
@@ -31,39 +30,39 @@ loop-holds c =
     (stands-root (a .t2) (a .s .now), refl, sym (search-start (a .t2 .pins) (nodeTime (fetchedAt (a .t2) (a .s .now))) (a .target)))
 
 mul-start : tie.Need-mul-start Inv-loop μ-loop
-mul-start c = omega (arith, level-fits (c .before .before .before .args .t2) (c .before .before .before .args .s .now) (c .before .loop .depth) (c .before .loop .v) (c .before .before .before .pre) (c .before .loop .inv .0 .low) (omega arith))
+mul-start c = omega (arith, stands-level (c .before .loop .inv .0) (c .before .before .before .pre) (omega arith))
 
 element-copy-out-start : tie.Need-element-copy-out-start Inv-loop μ-loop
-element-copy-out-start c = omega (arith, level-fits (c .before .before .before .args .t2) (c .before .before .before .args .s .now) (c .before .loop .depth) (c .before .loop .v) (c .before .before .before .pre) (c .before .loop .inv .0 .low) (omega arith))
+element-copy-out-start c = omega (arith, stands-level (c .before .loop .inv .0) (c .before .before .before .pre) (omega arith))
 
 add-end : tie.Need-add-end Inv-loop μ-loop
-add-end c = omega (arith, level-fits (c .before .before .before .before .args .t2) (c .before .before .before .before .args .s .now) (c .before .before .loop .depth) (c .before .before .loop .v) (c .before .before .before .before .pre) (c .before .before .loop .inv .0 .low) (omega arith))
+add-end c = omega (arith, stands-level (c .before .before .loop .inv .0) (c .before .before .before .before .pre) (omega arith))
 
 mul-end : tie.Need-mul-end Inv-loop μ-loop
-mul-end c = omega (arith, level-fits (c .before .before .before .before .args .t2) (c .before .before .before .before .args .s .now) (c .before .before .loop .depth) (c .before .before .loop .v) (c .before .before .before .before .pre) (c .before .before .loop .inv .0 .low) (omega arith))
+mul-end c = omega (arith, stands-level (c .before .before .loop .inv .0) (c .before .before .before .before .pre) (omega arith))
 
 element-copy-out-end : tie.Need-element-copy-out-end Inv-loop μ-loop
-element-copy-out-end c = omega (arith, level-fits (c .before .before .before .before .args .t2) (c .before .before .before .before .args .s .now) (c .before .before .loop .depth) (c .before .before .loop .v) (c .before .before .before .before .pre) (c .before .before .loop .inv .0 .low) (omega arith))
+element-copy-out-end c = omega (arith, stands-level (c .before .before .loop .inv .0) (c .before .before .before .before .pre) (omega arith))
 
 element-copy-out-code : tie.Need-element-copy-out-code Inv-loop μ-loop
-element-copy-out-code c = omega (arith, level-fits (c .before .before .before .before .before .args .t2) (c .before .before .before .before .before .args .s .now) (c .before .before .before .loop .depth) (c .before .before .before .loop .v) (c .before .before .before .before .before .pre) (c .before .before .before .loop .inv .0 .low) (omega arith))
+element-copy-out-code c = omega (arith, stands-level (c .before .before .before .loop .inv .0) (c .before .before .before .before .before .pre) (omega arith))
 
 add-nodes : tie.Need-add-nodes Inv-loop μ-loop
-add-nodes c = omega (arith, level-fits (c .before .before .before .before .before .before .args .t2) (c .before .before .before .before .before .before .args .s .now) (c .before .before .before .before .loop .depth) (c .before .before .before .before .loop .v) (c .before .before .before .before .before .before .pre) (c .before .before .before .before .loop .inv .0 .low) (omega arith))
+add-nodes c = omega (arith, stands-level (c .before .before .before .before .loop .inv .0) (c .before .before .before .before .before .before .pre) (omega arith))
 
 sub-open-node : tie.Need-sub-open-node Inv-loop μ-loop
-sub-open-node c = omega (arith, level-fits (c .before .before .before .before .before .before .args .t2) (c .before .before .before .before .before .before .args .s .now) (c .before .before .before .before .loop .depth) (c .before .before .before .before .loop .v) (c .before .before .before .before .before .before .pre) (c .before .before .before .before .loop .inv .0 .low) (omega arith))
+sub-open-node c = omega (arith, stands-level (c .before .before .before .before .loop .inv .0) (c .before .before .before .before .before .before .pre) (omega arith))
 
 part-open-node-start : tie.Need-part-open-node-start Inv-loop μ-loop
-part-open-node-start c = omega (arith, level-fits (c .before .before .before .before .before .before .args .t2) (c .before .before .before .before .before .before .args .s .now) (c .before .before .before .before .loop .depth) (c .before .before .before .before .loop .v) (c .before .before .before .before .before .before .pre) (c .before .before .before .before .loop .inv .0 .low) (omega arith))
+part-open-node-start c = omega (arith, stands-level (c .before .before .before .before .loop .inv .0) (c .before .before .before .before .before .before .pre) (omega arith))
 
 part-open-node-end : tie.Need-part-open-node-end Inv-loop μ-loop
-part-open-node-end c = omega (arith, level-fits (c .before .before .before .before .before .before .args .t2) (c .before .before .before .before .before .before .args .s .now) (c .before .before .before .before .loop .depth) (c .before .before .before .before .loop .v) (c .before .before .before .before .before .before .pre) (c .before .before .before .before .loop .inv .0 .low) (omega arith))
+part-open-node-end c = omega (arith, stands-level (c .before .before .before .before .loop .inv .0) (c .before .before .before .before .before .before .pre) (omega arith))
 
 open-node-requires : tie.Need-open-node-requires Inv-loop μ-loop
 open-node-requires c κs =
     let w = c .before .before .before .before .before .loop .inv .0 in
-    let f = level-fits (c .before .before .before .before .before .before .before .args .t2) (c .before .before .before .before .before .before .before .args .s .now) (c .before .before .before .before .before .loop .depth) (c .before .before .before .before .before .loop .v) (c .before .before .before .before .before .before .before .pre) (c .before .before .before .before .before .loop .inv .0 .low) (omega arith) in
+    let f = stands-level (c .before .before .before .before .before .loop .inv .0) (c .before .before .before .before .before .before .before .pre) (omega arith) in
     (w .low, w .high, omega arith, omega arith, simp length-take (omega arith))
 
 enum-known-opened : tie.Need-enum-known-opened Inv-loop μ-loop
@@ -83,25 +82,36 @@ root-place-requires : tie.Need-root-place-requires Inv-loop μ-loop
 root-place-requires c κs = tt
 
 add-position : tie.Need-add-position Inv-loop μ-loop
-add-position c = omega (arith, stands-place (c .before .before .before .before .before .before .before .before .before .before .before .before .loop .inv .0) (omega arith), c .before .before .before .before .before .before .before .before .before .before .before .before .loop .inv .0 .inside)
+add-position c =
+    let w = c .before .before .before .before .before .before .before .before .before .before .before .before .loop .inv .0 in
+    omega (arith, stands-place w (omega arith), w .inside)
 
 sub-position : tie.Need-sub-position Inv-loop μ-loop
-sub-position c = omega (arith, stands-place (c .before .before .before .before .before .before .before .before .before .before .before .before .loop .inv .0) (omega arith), c .before .before .before .before .before .before .before .before .before .before .before .before .loop .inv .0 .inside)
+sub-position c =
+    let w = c .before .before .before .before .before .before .before .before .before .before .before .before .loop .inv .0 in
+    omega (arith, stands-place w (omega arith), w .inside)
 
 side-of-requires : tie.Need-side-of-requires Inv-loop μ-loop
-side-of-requires c κs = omega (arith, stands-place (c .before .before .before .before .before .before .before .before .before .before .before .loop .inv .0) (omega arith), c .before .before .before .before .before .before .before .before .before .before .before .loop .inv .0 .inside)
+side-of-requires c κs =
+    let w = c .before .before .before .before .before .before .before .before .before .before .before .loop .inv .0 in
+    omega (arith, stands-place w (omega arith), w .inside)
 
 child-of-requires : tie.Need-child-of-requires Inv-loop μ-loop
-child-of-requires c κs = omega (arith, level-fits (c .before .before .before .before .before .before .before .before .before .before .before .before .before .before .args .t2) (c .before .before .before .before .before .before .before .before .before .before .before .before .before .before .args .s .now) (c .before .before .before .before .before .before .before .before .before .before .before .before .loop .depth) (c .before .before .before .before .before .before .before .before .before .before .before .before .loop .v) (c .before .before .before .before .before .before .before .before .before .before .before .before .before .before .pre) (c .before .before .before .before .before .before .before .before .before .before .before .before .loop .inv .0 .low) (omega arith))
+child-of-requires c κs =
+    let w = c .before .before .before .before .before .before .before .before .before .before .before .before .loop .inv .0 in
+    omega (arith, stands-level w (c .before .before .before .before .before .before .before .before .before .before .before .before .before .before .pre) (omega arith))
 
 add-depth : tie.Need-add-depth Inv-loop μ-loop
-add-depth c = omega (arith, level-fits (c .before .before .before .before .before .before .before .before .before .before .before .before .before .before .before .args .t2) (c .before .before .before .before .before .before .before .before .before .before .before .before .before .before .before .args .s .now) (c .before .before .before .before .before .before .before .before .before .before .before .before .before .loop .depth) (c .before .before .before .before .before .before .before .before .before .before .before .before .before .loop .v) (c .before .before .before .before .before .before .before .before .before .before .before .before .before .before .before .pre) (c .before .before .before .before .before .before .before .before .before .before .before .before .before .loop .inv .0 .low) (omega arith))
+add-depth c =
+    let w = c .before .before .before .before .before .before .before .before .before .before .before .before .before .loop .inv .0 in
+    omega (arith, stands-level w (c .before .before .before .before .before .before .before .before .before .before .before .before .before .before .before .pre) (omega arith))
 
 loop-less : tie.Need-loop-less Inv-loop μ-loop
 loop-less c =
+    let a = c .before .before .before .before .before .before .before .before .before .before .before .before .before .before .before .args in
     let l = c .before .before .before .before .before .before .before .before .before .before .before .before .before .loop in
     let x = c .before .before .before .before .before .opened .given .0 .0 in
-    rw (c .before .side-of .ensures) (side-in (ltb x (c .before .before .before .before .before .before .before .before .before .before .before .before .before .before .before .args .target)) (l .here) (stands-pins (l .inv .0) (omega arith)) .0)
+    rw (c .before .side-of .ensures) (side-in (ltb x (a .target)) (l .here) (stands-pins (l .inv .0) (omega arith)) .0)
 
 loop-again : tie.Need-loop-again Inv-loop μ-loop
 loop-again c =
