@@ -6,12 +6,13 @@ use lib.ListN.{length}
 use lib.Seq.{take-at, drop-at}
 use Rattle.codes.specs.Codes.{kindBits, levelBits}
 use Rattle.codes.specs.Fetch.{fetched}
-use Rattle.codes.specs.Promises.{RoundTrip, Lengths, BestChoice, PartAlone}
+use Rattle.codes.specs.Promises.{RoundTrip, Lengths, BestChoice, PartAlone, LeastWidth}
 use Rattle.codes.proofs.Best.{chosen-holds, chosen-size, chosen-first}
 use Rattle.codes.proofs.Bits.{length-fixed, length-padded}
 use Rattle.codes.proofs.ChunkCounts.{chunked-length}
 use Rattle.codes.proofs.CodeByte.{kind-known}
 use Rattle.codes.proofs.Parts.{part-back}
+use Rattle.codes.proofs.Widths.{width-holds, width-least}
 
 pub round-trip : RoundTrip
 round-trip = part-back
@@ -35,3 +36,6 @@ best-choice vs h = record {
 pub part-alone : PartAlone
 part-alone code count j before bytes after =
     ap (fetched code count j) (rw (drop-at before (bytes ++ after) (length before) refl, take-at bytes after (length bytes) refl))
+
+pub least-width : LeastWidth
+least-width = record { holds = width-holds; least = width-least }

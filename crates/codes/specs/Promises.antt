@@ -1,13 +1,13 @@
 -- What is shown of the level codes besides each function's contract. proofs/Promises proves each, as
--- `round-trip`, `lengths`, `best-choice` and `part-alone`.
+-- `round-trip`, `lengths`, `best-choice`, `part-alone` and `least-width`.
 use mathlib.Core.Path.{_≡_}
 use mathlib.Core.List.{List, _++_, map}
-use Prim.Native.Nat.{ℕ, _+_, _*_, _≤_, _<_}
+use Prim.Native.Nat.{ℕ, _+_, _*_, _^_, _≤_, _<_}
 use lib.ListN.{length, take, drop, getD}
 use Rattle.codes.specs.declared.kinds.Kind.the-variants.{Fixed, Chunked}
 use Rattle.codes.specs.Bits.{sum, bytesFor}
 use Rattle.codes.specs.Codes.{kindOf, part, Within, Holds}
-use Rattle.codes.specs.Choice.{chunks, size, chosen}
+use Rattle.codes.specs.Choice.{widthIn, chunks, size, chosen}
 use Rattle.codes.specs.Fetch.{value, fetched}
 
 -- 1. By any code that holds the values, a fetch from their part, followed by any bytes or none, gives each value back.
@@ -36,3 +36,8 @@ BestChoice = (vs : List ℕ) → Within 32 vs → Best vs
 abbrev pub PartAlone : Type 0
 PartAlone = (code count j : ℕ) (before bytes after : List ℕ)
     → fetched code count j (take (length bytes) (drop (length before) (before ++ (bytes ++ after)))) ≡ fetched code count j bytes
+
+-- 5. The bits of a number up to its highest one bit hold it, and no fewer do.
+pub record LeastWidth : Type 0 where
+  pub holds : (f v : ℕ) → v < 2 ^ f → v < 2 ^ widthIn f v
+  pub least : (f v w : ℕ) → v < 2 ^ w → widthIn f v ≤ w

@@ -1,72 +1,33 @@
 -- The height of a tree, and the root's place by the pins of its last level.
-use mathlib.Core.Path.{_≡_, refl, ap, _∙_}
+use mathlib.Core.Path.{_≡_, _∙_}
 use mathlib.Core.Bool.{cond}
 use Prim.Native.Nat.{ℕ, zero, suc, _+_, _-_, _*_, _/_, _^_, _≤_, _<_, min}
-use native.Mathlib.Nat.{le-refl, pow-succ'}
-use native.Mathlib.Decide.{le-ind, decLt}
+use native.Mathlib.Nat.{pow-succ'}
+use native.Mathlib.Decide.{decLt}
 use native.Mathlib.Omega.{arith}
-use lib.Dec.{eqb, ltb, eqb·suc-zero}
-use lib.Arith.{half-le}
+use lib.Dec.{ltb}
 use lib.Pow.{pow-pos, pow-mono, shl-shr, shr-mono, shr-lt, pow-add}
 use borrow.Author.Tests.{lt-ltb, le-ltb}
-use Rattle.tree.specs.Shape.{heightIn, height, rootPlace}
+use Rattle.codes.proofs.Promises.{least-width}
+use Rattle.tree.specs.Shape.{height, rootPlace}
 
 -- ---- the height
 
-heightIn-more : (f n : ℕ) → n ≤ f → heightIn (suc f) n ≡ heightIn f n
-unfolding heightIn
-heightIn-more zero zero h = refl
-heightIn-more zero (suc n) h = absurd (omega arith)
-heightIn-more (suc f) n h = ap (λ (x : ℕ). cond (eqb n 0) 0 (suc x)) (heightIn-more f (n / 2) (half-le h))
-
-heightIn-enough : (f n : ℕ) → n ≤ f → heightIn f n ≡ height n
-unfolding height
-heightIn-enough f n h = le-ind (λ (m : ℕ). heightIn m n ≡ heightIn n n) refl (λ m k e. heightIn-more m n k ∙ e) f h
-
-pub height-step : (n : ℕ) → 1 ≤ n → height n ≡ suc (height (n / 2))
-unfolding height heightIn
-height-step zero h = absurd (omega arith)
-height-step (suc n) h = rw (heightIn-enough n (suc n / 2) (half-le (le-refl (suc n))), eqb·suc-zero n)
-
--- a height of k + 1 is that of the numbers with k + 1 binary digits
-pub record Digits (n : ℕ) : Type 0 where
-  pub top : ℕ
-  pub is : height n ≡ suc top
-  pub least : 2 ^ top ≤ n
-  pub below : n < 2 ^ suc top
-
-digitsIn : (f n : ℕ) → 1 ≤ n → n ≤ f → Digits n
-unfolding height heightIn
-digitsIn zero n lo hi = absurd (omega arith)
-digitsIn (suc f) n lo hi = go (decLt n 2) (λ h. digitsIn f (n / 2) (omega arith) (half-le hi))
-  where
-    go : Dec (n < 2) → (2 ≤ n → Digits (n / 2)) → Digits n
-    go (yes h) r = let e : n ≡ 1 = omega arith in record { top = 0; is = ap height e; least = omega arith; below = omega arith }
-    go (no h) r =
-        let d = r (omega arith) in
-        record { top = suc (d .top); is = height-step n lo ∙ ap suc (d .is); least = omega (arith, d .least); below = omega (arith, d .below) }
-
-pub digits : (n : ℕ) → 1 ≤ n → Digits n
-digits n h = digitsIn n n h (le-refl n)
-
-pub height-zero : height 0 ≡ 0
-unfolding height heightIn
-height-zero = refl
+lt-pow : (n : ℕ) → n < 2 ^ n
+lt-pow zero = omega arith
+lt-pow (suc n) = omega (arith, lt-pow n)
 
 pub height-bound : (n : ℕ) → n < 2 ^ height n
-height-bound zero = rw height-zero (omega arith)
-height-bound (suc n) = let d = digits (suc n) (omega arith) in rw (d .is) (d .below)
+unfolding height
+height-bound n = least-width .holds n n (lt-pow n)
 
 -- and no less would do
 pub height-le : (n k : ℕ) → n < 2 ^ k → height n ≤ k
-height-le zero k h = rw height-zero (omega arith)
-height-le (suc n) k h = let d = digits (suc n) (omega arith) in rw (d .is) (elim (decLt (d .top) k) [
-  | yes l ↦ l
-  | no l ↦ absurd (more d (omega arith))
-])
-  where
-    more : (d : Digits (suc n)) → k ≤ d .top → ⊥
-    more d l = omega (arith, pow-mono l, d .least)
+unfolding height
+height-le n k h = least-width .least n n k h
+
+pub height-zero : height 0 ≡ 0
+height-zero = omega (arith, height-le 0 0 (omega arith))
 
 pub height-mono : (m n : ℕ) → m ≤ n → height m ≤ height n
 height-mono m n h = height-le m (height n) (omega (arith, height-bound n))
@@ -88,6 +49,31 @@ height-unique n m lt le =
 
 pub height-is : (k n : ℕ) → 2 ^ k ≤ n → n < 2 ^ suc k → height n ≡ suc k
 height-is k n lo hi = height-unique n (suc k) hi (omega arith)
+
+-- a height of k + 1 is that of the numbers with k + 1 binary digits
+pub record Digits (n : ℕ) : Type 0 where
+  pub top : ℕ
+  pub is : height n ≡ suc top
+  pub least : 2 ^ top ≤ n
+  pub below : n < 2 ^ suc top
+
+pub digits : (n : ℕ) → 1 ≤ n → Digits n
+digits n h =
+    let e : height n ≡ suc (height n - 1) = omega (arith, height-above n 0 h) in
+    record { top = height n - 1; is = e; least = least (decLt n (2 ^ (height n - 1))); below = rw e at (height-bound n) }
+  where
+    least : Dec (n < 2 ^ (height n - 1)) → 2 ^ (height n - 1) ≤ n
+    least (yes l) = absurd (omega (arith, height-le n (height n - 1) l, height-above n 0 h))
+    least (no l) = omega arith
+
+pub height-step : (n : ℕ) → 1 ≤ n → height n ≡ suc (height (n / 2))
+height-step n h = height-unique n (suc (height (n / 2))) (omega (arith, height-bound (n / 2))) (low (decLt n 2))
+  where
+    low : Dec (n < 2) → 2 ^ suc (height (n / 2)) ≤ 2 * n + 1
+    low (yes l) =
+        let e : n / 2 ≡ 0 = omega arith in
+        rw (e, height-zero) (omega arith)
+    low (no l) = let d = digits (n / 2) (omega arith) in rw (d .is) (omega (arith, d .least))
 
 -- the highest binary digit
 pub top-digit : (n : ℕ) → 1 ≤ n → n / 2 ^ (height n - 1) ≡ 1

@@ -7,10 +7,11 @@ use Prim.Native.Nat.{ℕ}
 use lib.Dec.{eqb}
 use Rattle.codes.specs.Bits.{bits, number, sum, fixed}
 use Rattle.codes.specs.Codes.{kindOf}
+use Rattle.codes.specs.Choice.{widthIn}
 use Rattle.codes.specs.Marked.{same}
 use Rattle.codes.specs.Fetch.{fixedAt, fetchLayers, chunkedAt, fetched}
 use Rattle.tree.specs.declared.nodes.Levels.{Levels}
-use Rattle.tree.specs.Shape.{heightIn, height, rootPlace, childOf, stretchIn, stretch, rank}
+use Rattle.tree.specs.Shape.{height, rootPlace, childOf, stretchIn, stretch, rank}
 use Rattle.tree.specs.Stored.{timeOf, timeAbove, stored, storedFrom, storedValues}
 use Rattle.tree.specs.Levels.{partOf, fetchedAt}
 use Rattle.tree.specs.Times.{Time, nodeTimeIn, nodeTime}
@@ -78,6 +79,6 @@ all [] = true
 all (c ∷ cs) = passes c && all cs
 
 pub marked-pass : all marked ≡ true
-unfolding bits number sum fixed kindOf fixedAt fetchLayers chunkedAt fetched heightIn height rootPlace childOf stretchIn stretch rank timeOf timeAbove stored
+unfolding bits number sum fixed kindOf fixedAt fetchLayers chunkedAt fetched widthIn height rootPlace childOf stretchIn stretch rank timeOf timeAbove stored
     storedFrom partOf fetchedAt nodeTimeIn nodeTime walkIn walk met toward lastOf accessAnswer lastLeft searchAnswer
 marked-pass = refl

@@ -3,18 +3,15 @@ use mathlib.Core.Path.{_≡_}
 use mathlib.Core.Bool.{Bool, true, false, cond}
 use Prim.Native.Nat.{ℕ, zero, suc, _+_, _-_, _*_, _/_, _%_, _^_}
 use lib.Dec.{eqb, ltb}
+use Rattle.codes.specs.Choice.{widthIn}
 use Rattle.tree.specs.declared.shape.Stretch.{Stretch}
 use Rattle.tree.specs.declared.shape.Ranked.{Ranked}
 use Rattle.tree.specs.declared.shape.Ranked.the-variants.{At, NoNode}
 
--- the binary digits of n, of which it has at most f
-unfoldable pub heightIn : ℕ → ℕ → ℕ
-heightIn zero n = 0
-heightIn (suc f) n = let more = suc (heightIn f (n / 2)) in cond (eqb n 0) 0 more
-
--- The height of n pins, the least h with 2 ^ h - 1 ≥ n, as `HeightLeast` in Promises says. A number n has no more than n binary digits.
+-- The height of n pins, the least h with 2 ^ h - 1 ≥ n, as `HeightLeast` in Promises says: the bits of n up to its highest one bit, of
+-- which there are no more than n.
 unfoldable pub height : ℕ → ℕ
-height n = heightIn n n
+height n = widthIn n n
 
 -- the root's place in a list of n, counted from 1; an empty list has no root, which 0 says
 unfoldable pub rootPlace : ℕ → ℕ
