@@ -50,7 +50,7 @@ pub fn child_of(v: usize, right: bool) -> usize
 
 // The stretch under a child: what follows or what precedes the place of the root in its parent's stretch.
 pub fn side_of(s: Stretch, place: usize, right: bool) -> Stretch
-    requires { ⌜ (1 ≤ place) × (place ≤ s .pins) × (place ≡ rootPlace (s .pins)) × (s .start + s .pins < 2 ^ 64) ⌝ }
+    requires { ⌜ (1 ≤ s .pins) × (place ≡ rootPlace (s .pins)) × (s .start + s .pins < 2 ^ 64) ⌝ }
     ensures { λ r. ⌜ r ≡ sideOf right s ⌝ }
 {
     if right {

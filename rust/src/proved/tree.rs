@@ -43,6 +43,18 @@ extern "C" {
     );
 }
 
+/// What `tree_access` and `tree_search` are, but for what is asked.
+type Walk<T> = unsafe extern "C" fn(
+    *mut usize,
+    usize,
+    *const u8,
+    usize,
+    *const [u8; HEIGHT],
+    *const [usize; HEIGHT + 1],
+    usize,
+    T,
+);
+
 #[inline]
 pub fn height(n: usize) -> usize {
     // SAFETY: takes a number and requires nothing.
@@ -111,45 +123,27 @@ impl<'a> Tree<'a> {
     /// The time at position i and the nodes opened.
     #[inline]
     pub fn access(&self, i: usize) -> Result<(u32, usize), Refusal> {
-        let Levels { pins, codes, ends } = self.levels;
-        assert!(i < *pins);
-        let (mut answer, s) = ([0; 3], self.s);
-        // SAFETY: the pointers are slices' and two arrays'; the requirements are asserted,
-        // those of the levels in `new`.
-        unsafe {
-            tree_access(
-                answer.as_mut_ptr(),
-                3,
-                s.as_ptr(),
-                s.len(),
-                codes,
-                ends,
-                *pins,
-                i,
-            );
-        }
-        let (time, nodes) = outcome(answer)?;
+        assert!(i < self.levels.pins);
+        let (time, nodes) = self.call(tree_access, i)?;
         Ok((u32::try_from(time).expect("a time has 32 bits"), nodes))
     }
 
     /// The position and the nodes opened.
     #[inline]
     pub fn search(&self, target: u32) -> Result<(usize, usize), Refusal> {
+        self.call(tree_search, target)
+    }
+
+    #[inline]
+    fn call<T>(&self, walk: Walk<T>, asked: T) -> Result<(usize, usize), Refusal> {
         let Levels { pins, codes, ends } = self.levels;
         let (mut answer, s) = ([0; 3], self.s);
+        let (room, length) = (answer.len(), s.len());
         // SAFETY: the pointers are slices' and two arrays'; the requirements are asserted,
         // those of the levels in `new`.
         unsafe {
-            tree_search(
-                answer.as_mut_ptr(),
-                3,
-                s.as_ptr(),
-                s.len(),
-                codes,
-                ends,
-                *pins,
-                target,
-            );
+            let answer = answer.as_mut_ptr();
+            walk(answer, room, s.as_ptr(), length, codes, ends, *pins, asked);
         }
         outcome(answer)
     }
