@@ -27,7 +27,7 @@ pub enum Refusal {
 const GREATEST: u32 = 4294967295;
 
 // The time of a node that is opened.
-pub enum Opened {
+pub(crate) enum Opened {
     Time(u32),
     Refused(Refusal),
 }
@@ -55,7 +55,14 @@ fn time_under(v: usize, above: u32, d: u32) -> Opened
 }
 
 // Opens node v of n by a fetch from its level's part alone, in code `code`. It has `depth` levels and the time `above` above it.
-pub fn open_node(part: &[u8], code: u8, n: usize, depth: usize, v: usize, above: u32) -> Opened
+pub(crate) fn open_node(
+    part: &[u8],
+    code: u8,
+    n: usize,
+    depth: usize,
+    v: usize,
+    above: u32,
+) -> Opened
     requires { ⌜ (2 ^ depth ≤ v) × (v < 2 * 2 ^ depth) × (v ≤ n) × (n < 2 ^ 63) × (length (now part) < 2 ^ 32) ⌝ }
     ensures { λ r. ⌜ timeOpened r ≡ under v (at above) (fetched code (min (n + 1 - 2 ^ depth) (2 ^ depth)) (v - 2 ^ depth) (now (part .entry))) ⌝ }
 {

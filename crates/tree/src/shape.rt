@@ -4,9 +4,9 @@ ghost use Prim.Native.Nat.{ℕ, _+_, _/_, _^_, _≤_, _<_};
 ghost use Rattle.tree.specs.Shape.{height, rootPlace, sideOf, childOf, StretchIs, rank, ranked};
 
 // The stretch of the list under a node: where it starts and how many pins it has.
-pub struct Stretch {
-    pub start: usize,
-    pub pins: usize,
+pub(crate) struct Stretch {
+    pub(crate) start: usize,
+    pub(crate) pins: usize,
 }
 
 // A node's position in the whole list, or that the number is no node's.
@@ -22,7 +22,7 @@ pub fn height(n: usize) -> usize
     (64 - usize::leading_zeros(n)) as usize
 }
 
-pub fn power_of_two(k: usize) -> usize
+pub(crate) fn power_of_two(k: usize) -> usize
     requires { ⌜ k < 64 ⌝ }
     ensures { λ r. ⌜ r ≡ 2 ^ k ⌝ }
 {
@@ -41,7 +41,7 @@ pub fn root_place(n: usize) -> usize
 }
 
 // The number of a node's child.
-pub fn child_of(v: usize, right: bool) -> usize
+pub(crate) fn child_of(v: usize, right: bool) -> usize
     requires { ⌜ v < 2 ^ 63 ⌝ }
     ensures { λ r. ⌜ r ≡ childOf right v ⌝ }
 {
@@ -49,7 +49,7 @@ pub fn child_of(v: usize, right: bool) -> usize
 }
 
 // The stretch under a child: what follows or what precedes the place of the root in its parent's stretch.
-pub fn side_of(s: Stretch, place: usize, right: bool) -> Stretch
+pub(crate) fn side_of(s: Stretch, place: usize, right: bool) -> Stretch
     requires { ⌜ (1 ≤ s .pins) × (place ≡ rootPlace (s .pins)) × (s .start + s .pins < 2 ^ 64) ⌝ }
     ensures { λ r. ⌜ r ≡ sideOf right s ⌝ }
 {
