@@ -1,7 +1,10 @@
-//! Level codes and tree three times over: a slow reference, a plain baseline for speed, and
-//! the proved library behind its C functions.
+//! Level codes, tree and strip three times over: a slow reference, a plain baseline for speed,
+//! and the proved library behind its C functions.
 
+pub mod lists;
+pub mod parts;
 pub mod proved;
 pub mod random;
 pub mod reference;
 pub mod straightforward;
+pub mod tally;

@@ -1,5 +1,6 @@
 //! Safe wrappers over the proved library's C functions.
 
+pub mod strip;
 pub mod tree;
 
 use crate::reference::{self, Kind};

@@ -1,6 +1,7 @@
 //! The scope's level codes, bit by bit. Slow on purpose: each function follows the
 //! scope's sentences and nothing else.
 
+pub mod strip;
 pub mod tree;
 
 #[derive(Debug, PartialEq, Clone, Copy)]

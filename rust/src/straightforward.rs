@@ -3,6 +3,7 @@
 //!
 //! The public functions are never inlined, since calls into the proved library are not.
 
+pub mod strip;
 pub mod tree;
 
 /// A chunked code's b, or none for a fixed width.

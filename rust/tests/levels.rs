@@ -1,6 +1,7 @@
 //! The proved level codes against the slow reference, result by result and byte by byte.
 //! The baseline of the speed comparison goes through the same tests.
 
+use gemcotton_tests::parts::{chunks, part_of_chunks};
 use gemcotton_tests::random::Random;
 use gemcotton_tests::reference::Kind;
 use gemcotton_tests::{proved, reference, straightforward};
@@ -393,39 +394,6 @@ fn fetch_from_many_random_bytes() {
 }
 
 // ---- Fetch from parts made by hand ----
-
-/// A part with these chunks for each value, least significant first, whether or not an
-/// encoder would write them.
-fn part_of_chunks(values: &[Vec<u32>], b: u32) -> Vec<u8> {
-    let mut bits = Vec::new();
-    for layer in 0.. {
-        let here: Vec<&Vec<u32>> = values.iter().filter(|v| v.len() > layer).collect();
-        if here.is_empty() {
-            break;
-        }
-        bits.extend(here.iter().map(|v| u8::from(v.len() > layer + 1)));
-        for chunks in here {
-            bits.extend((0..b).rev().map(|place| (chunks[layer] >> place & 1) as u8));
-        }
-    }
-    bits.chunks(8)
-        .map(|byte| {
-            let filled = byte.iter().fold(0, |sum, bit| sum << 1 | bit);
-            filled << (8 - byte.len())
-        })
-        .collect()
-}
-
-/// The chunks of a number that may pass 2^32.
-fn chunks(number: u64, b: u32) -> Vec<u32> {
-    let mut chunks = vec![(number % (1 << b)) as u32];
-    let mut rest = number >> b;
-    while rest > 0 {
-        chunks.push((rest % (1 << b)) as u32);
-        rest >>= b;
-    }
-    chunks
-}
 
 /// Makes this bit of the number 1.
 fn set_bit(chunks: &mut Vec<u32>, place: usize, b: u32) {

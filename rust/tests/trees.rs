@@ -3,30 +3,17 @@
 
 use std::ops::Range;
 
+use gemcotton_tests::lists::{
+    around_powers, few_lists, few_pins, lists, rising, some_positions, sorted, targets, Answers,
+};
+use gemcotton_tests::parts::{any_code, chosen};
 use gemcotton_tests::proved::tree as proved;
 use gemcotton_tests::random::Random;
-use gemcotton_tests::reference as codes;
+use gemcotton_tests::reference::strip::PINS;
 use gemcotton_tests::reference::tree as reference;
 use gemcotton_tests::reference::tree::{Levels, Refusal, HEIGHT};
 use gemcotton_tests::straightforward::tree as straightforward;
-
-/// "The greatest pin count".
-const PINS: usize = 65_535;
-
-/// Counts around the powers of two and three times these, where the height or the root's
-/// case changes, up to the limit. The greatest count of all is among them.
-fn around_powers(limit: usize) -> Vec<usize> {
-    let mut counts = Vec::new();
-    for k in 0..=64 {
-        for power in [1u128 << k, 3 << k] {
-            counts.extend(power.saturating_sub(3)..=power + 3);
-        }
-    }
-    counts.retain(|&n| n <= limit as u128);
-    counts.sort();
-    counts.dedup();
-    counts.into_iter().map(|n| n as usize).collect()
-}
+use gemcotton_tests::tally::Tally;
 
 // ---- Height, root place, rank ----
 
@@ -105,60 +92,6 @@ fn rank_in_huge_lists() {
     }
 }
 
-// ---- Lists ----
-
-/// n times with these gaps. Where they would pass the greatest time, they stay there.
-fn rising(n: usize, mut gap: impl FnMut() -> u32) -> Vec<u32> {
-    let mut time = 0u32;
-    let next = |_| {
-        time = time.saturating_add(gap());
-        time
-    };
-    (0..n).map(next).collect()
-}
-
-fn sorted(mut times: Vec<u32>) -> Vec<u32> {
-    times.sort();
-    times
-}
-
-/// Lists of n times: chords, small and huge gaps, the least and the greatest time.
-fn lists(n: usize, random: &mut Random) -> Vec<Vec<u32>> {
-    let (equal, jump) = (random.skewed(), random.below(n + 1));
-    let mut ends = sorted((0..n).map(|_| random.of_width(32)).collect());
-    if let [first, .., last] = &mut ends[..] {
-        (*first, *last) = (0, u32::MAX);
-    }
-    vec![
-        vec![0; n],
-        vec![equal; n],
-        vec![u32::MAX; n],
-        (0..n as u32).collect(),
-        (0..n as u32).rev().map(|i| u32::MAX - i).collect(),
-        // One gap, as great as can be.
-        (0..n)
-            .map(|i| if i < jump { 0 } else { u32::MAX })
-            .collect(),
-        // Mostly chords.
-        rising(n, || [0, 0, 0, random.of_width(7)][random.below(4)]),
-        rising(n, || random.of_width(2)),
-        rising(n, || random.skewed() & random.skewed() & random.skewed()),
-        // Close together at the least times, and at the greatest.
-        sorted((0..n).map(|_| random.skewed()).collect()),
-        sorted((0..n).map(|_| !random.skewed()).collect()),
-        ends,
-    ]
-}
-
-/// A few of those lists.
-fn few_lists(n: usize, count: usize, random: &mut Random) -> Vec<Vec<u32>> {
-    let mut lists = lists(n, random);
-    while lists.len() > count {
-        lists.swap_remove(random.below(lists.len()));
-    }
-    lists
-}
-
 // ---- Construction ----
 
 /// Constructs into buffers of the exact length and longer. Nothing but the stored values may
@@ -203,20 +136,6 @@ fn construct_long_lists() {
 struct Tree {
     s: Vec<u8>,
     levels: Levels,
-}
-
-/// The code that pack chooses.
-fn chosen(_: usize, values: &[u32]) -> u8 {
-    codes::choose(values).0
-}
-
-/// Names a random one of the codes that hold the values.
-fn any_code(random: &mut Random) -> impl FnMut(usize, &[u32]) -> u8 + '_ {
-    |_, values| {
-        let width = 32 - values.iter().max().map_or(32, |v| v.leading_zeros());
-        let codes: Vec<u8> = (width as u8..=32).chain(65..=72).collect();
-        codes[random.below(codes.len())]
-    }
 }
 
 fn width_32(_: usize, _: &[u32]) -> u8 {
@@ -295,68 +214,17 @@ impl Tree {
 
 // ---- Access and search in whole trees ----
 
-/// Each time, one more and one less, the ends, and random targets.
-fn targets(times: &[u32], random: &mut Random) -> Vec<u32> {
-    let mut targets: Vec<u32> = times
-        .iter()
-        .flat_map(|&time| [time.saturating_sub(1), time, time.saturating_add(1)])
-        .collect();
-    targets.extend([0, u32::MAX, random.skewed(), random.of_width(32)]);
-    targets.dedup();
-    targets
-}
-
-/// What a list's tree must answer, told by the list and the ranks alone.
-struct Answers<'a> {
-    times: &'a [u32],
-    ranks: Vec<usize>,
-    /// The nodes opened to reach each position.
-    nodes: Vec<usize>,
-}
-
-impl<'a> Answers<'a> {
-    fn new(times: &'a [u32]) -> Self {
-        let ranks = reference::ranks(times.len());
-        let mut nodes = vec![0; times.len()];
-        for (v, &rank) in (1..).zip(&ranks) {
-            // A tree of v nodes ends with the level that v is in.
-            nodes[rank] = reference::height(v);
-        }
-        Answers {
-            times,
-            ranks,
-            nodes,
-        }
-    }
-
-    fn access(&self, i: usize) -> Result<(u32, usize), Refusal> {
-        Ok((self.times[i], self.nodes[i]))
-    }
-
-    /// "From each node it goes to the left child when the plain list's time at that node's
-    /// rank is at or above the target, else to the right child".
-    fn search(&self, t: u32) -> Result<(usize, usize), Refusal> {
-        let (mut v, mut nodes) = (1, 0);
-        while v <= self.times.len() {
-            nodes += 1;
-            let time = self.times[self.ranks[v - 1]];
-            v = if time >= t { 2 * v } else { 2 * v + 1 };
-        }
-        Ok((self.times.partition_point(|&time| time < t), nodes))
-    }
-}
-
 /// Every position and the targets of the whole list.
 fn check_list(times: &[u32], mut tree: Tree, random: &mut Random) {
     tree.surround(random);
     let answers = Answers::new(times);
     for i in 0..times.len() {
         let found = tree.check_access(i);
-        assert_eq!(found, answers.access(i), "position {i} in {times:?}");
+        assert_eq!(found, Ok(answers.access(i)), "position {i} in {times:?}");
     }
     for t in targets(times, random) {
         let found = tree.check_search(t);
-        assert_eq!(found, answers.search(t), "target {t} in {times:?}");
+        assert_eq!(found, Ok(answers.search(t)), "target {t} in {times:?}");
         assert!(found.is_ok_and(|(_, nodes)| nodes <= tree.height()));
     }
 }
@@ -381,22 +249,22 @@ fn check_long_list(times: &[u32], mut tree: Tree, random: &mut Random) {
     let Tree { s, levels } = &tree;
     let proved = proved::Tree::new(s, levels);
     for i in 0..times.len() {
-        let expected = answers.access(i);
+        let expected = Ok(answers.access(i));
         assert_eq!(proved.access(i), expected, "position {i}");
         let found = straightforward::access(s, levels, i);
         assert_eq!(found, expected, "baseline: position {i}");
     }
     let some: Vec<u32> = (0..500).map(|_| times[random.below(times.len())]).collect();
     for t in targets(&some, random) {
-        let expected = answers.search(t);
+        let expected = Ok(answers.search(t));
         assert_eq!(proved.search(t), expected, "target {t}");
         let found = straightforward::search(s, levels, t);
         assert_eq!(found, expected, "baseline: target {t}");
     }
     for t in some.into_iter().take(5) {
-        assert_eq!(tree.check_search(t), answers.search(t), "target {t}");
+        assert_eq!(tree.check_search(t), Ok(answers.search(t)), "target {t}");
         let i = random.below(times.len());
-        assert_eq!(tree.check_access(i), answers.access(i), "position {i}");
+        assert_eq!(tree.check_access(i), Ok(answers.access(i)), "position {i}");
     }
 }
 
@@ -438,47 +306,6 @@ fn search_without_pins() {
 }
 
 // ---- Damaged trees ----
-
-/// The pin counts of most damaged trees.
-fn few_pins() -> impl Iterator<Item = usize> {
-    (1..=20).chain([31, 32, 47, 48, 63, 64, 300])
-}
-
-/// How often an answer or a refusal came.
-#[derive(Default, Debug)]
-struct Tally {
-    answers: usize,
-    fetches: usize,
-    times: usize,
-}
-
-impl Tally {
-    /// Counts the result and gives the answer, if it is one.
-    fn add<T>(&mut self, found: Result<T, Refusal>) -> Option<T> {
-        match found {
-            Ok(_) => self.answers += 1,
-            Err(Refusal::Fetch(_)) => self.fetches += 1,
-            Err(Refusal::Time(_)) => self.times += 1,
-        }
-        found.ok()
-    }
-
-    /// A test of damage must meet each of the three often.
-    fn require(&self, least: usize) {
-        let seen = self.answers.min(self.fetches).min(self.times);
-        assert!(seen >= least, "{self:?}");
-    }
-}
-
-/// Every position of a short list, some of a long one.
-fn some_positions(n: usize, random: &mut Random) -> Vec<usize> {
-    if n <= 20 {
-        return (0..n).collect();
-    }
-    let mut positions = vec![0, 1, n / 2, n - 2, n - 1];
-    positions.extend((0..5).map(|_| random.below(n)));
-    positions
-}
 
 /// Compares at positions, and searches for the times found there or one more, and for others.
 fn check_damaged(tree: &Tree, tally: &mut Tally, random: &mut Random) {
@@ -530,7 +357,7 @@ fn every_change_of_one_byte() {
             }
         }
     }
-    tally.require(10_000);
+    tally.require(&[0, 9, 10], 10_000);
 }
 
 #[test]
@@ -553,7 +380,7 @@ fn changed_bytes() {
             }
         }
     }
-    tally.require(1000);
+    tally.require(&[0, 9, 10], 1000);
 }
 
 #[test]
@@ -576,7 +403,7 @@ fn parts_of_random_bytes() {
             }
         }
     }
-    tally.require(1000);
+    tally.require(&[0, 9, 10], 1000);
 }
 
 #[test]
@@ -609,7 +436,7 @@ fn other_codes() {
             }
         }
     }
-    tally.require(1000);
+    tally.require(&[0, 9, 10], 1000);
 }
 
 #[test]
@@ -629,7 +456,7 @@ fn every_code_byte() {
             tree.levels.codes[level - 1] = code;
         }
     }
-    tally.require(1000);
+    tally.require(&[0, 9, 10], 1000);
 }
 
 #[test]
@@ -653,9 +480,9 @@ fn parts_cut_short() {
             }
         }
     }
-    assert!(tally.answers.min(tally.fetches) >= 1000, "{tally:?}");
+    tally.require(&[0, 9], 1000);
     // A part cut short gives no other value than the whole one.
-    assert_eq!(tally.times, 0);
+    tally.require_none(10);
 }
 
 #[test]
@@ -685,7 +512,7 @@ fn parts_elsewhere() {
             }
         }
     }
-    tally.require(1000);
+    tally.require(&[0, 9, 10], 1000);
 }
 
 #[test]
@@ -710,7 +537,7 @@ fn wrong_pin_counts() {
             }
         }
     }
-    tally.require(1000);
+    tally.require(&[0, 9, 10], 1000);
 }
 
 #[test]
@@ -743,7 +570,7 @@ fn damage_in_long_lists() {
             check_damaged(&tree, &mut tally, &mut random);
         }
     }
-    tally.require(50);
+    tally.require(&[0, 9, 10], 50);
 }
 
 // ---- Trees that no list makes ----
@@ -763,7 +590,7 @@ fn values_of_no_list() {
             check_damaged(&tree, &mut tally, &mut random);
         }
     }
-    assert!(tally.answers.min(tally.times) >= 1000, "{tally:?}");
+    tally.require(&[0, 10], 1000);
 }
 
 #[test]
@@ -778,7 +605,7 @@ fn times_at_the_very_ends() {
             check_damaged(&tree, &mut tally, &mut random);
         }
     }
-    assert!(tally.answers.min(tally.times) >= 1000, "{tally:?}");
+    tally.require(&[0, 10], 1000);
 }
 
 /// The first and last node of a level with all nodes.

@@ -38,6 +38,10 @@ height-above n k h = elim (decLt k (height n)) [ yes l ↦ l | no l ↦ absurd (
     fewer : height n ≤ k → ⊥
     fewer l = omega (arith, pow-mono l, height-bound n)
 
+-- the first node of level l is one of the nodes
+pub level-starts : (n l : ℕ) → 1 ≤ l → l ≤ height n → 2 ^ (l - 1) ≤ n
+level-starts n l h k = elim (decLt n (2 ^ (l - 1))) [ yes lt ↦ absurd (omega (arith, height-le n (l - 1) lt)) | no le ↦ omega arith ]
+
 -- no other number is such a least one
 pub height-unique : (n m : ℕ) → n < 2 ^ m → 2 ^ m ≤ 2 * n + 1 → height n ≡ m
 height-unique n m lt le =

@@ -1,13 +1,16 @@
 // The values that the nodes of a list's tree store, in node order.
+use super::nodes::least;
+use super::shape::power_of_two;
 use super::shape::root_place;
 ghost use mathlib.Core.Path.{_≡_};
 ghost use mathlib.Core.List.{_++_};
 ghost use Prim.Native.Nat.{_+_, _%_, _≤_};
 ghost use lib.Dec.{T};
 ghost use lib.ListN.{length, drop};
-ghost use Rattle.tree.specs.Shape.{StretchIs};
+ghost use Rattle.tree.specs.Shape.{height, StretchIs};
 ghost use Rattle.tree.specs.Lists.{ordered};
 ghost use Rattle.tree.specs.Stored.{difference, timeAbove, storedValues};
+ghost use Rattle.tree.specs.Levels.{levelValues};
 ghost use Rattle.tree.specs.Filled.{Filled};
 
 // What node v stores: its time's difference from its parent's, which is the greater one for a left child. Above the root the
@@ -52,4 +55,14 @@ pub fn construct(values: &mut [u32], times: &[u32])
     ensures { λ r. ⌜ now (values .exit) ≡ storedValues (now (times .entry)) ++ drop (length (now (times .entry))) (now (values .entry)) ⌝ }
 {
     fill(values, times, 0, times.len(), 1, 0);
+}
+
+// Of a tree's values in node order, those on level `level`.
+pub fn level_values(values: &[u32], level: usize) -> &[u32]
+    requires { ⌜ (1 ≤ level) × (level ≤ height (length (now values))) ⌝ }
+    ensures { λ r. ⌜ now r ≡ levelValues (now (values .entry)) level ⌝ }
+{
+    let first = power_of_two(level - 1);
+    let last = least(values.len(), 2 * first - 1);
+    &values[first - 1..last]
 }

@@ -5,6 +5,7 @@ mod shape; // height, root place, stretches and ranks
 mod walking; // access and search
 
 pub use building::construct;
+pub use building::level_values;
 pub use nodes::Levels;
 pub use nodes::Refusal;
 pub use shape::Ranked;

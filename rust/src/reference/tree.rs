@@ -124,8 +124,23 @@ pub fn nodes_of_level(n: usize, level: usize) -> RangeInclusive<usize> {
     1 << (level - 1)..=n.min((1 << level) - 1)
 }
 
-/// The bytes and levels of the tree of these times. `code_for` is given a level and its
-/// values and names a code that holds them.
+/// Each level's code and part, for nodes that store these values, whether or not a list
+/// makes them. `code_for` is given a level and its values and names a code that holds them.
+pub fn parts_of_values(
+    values: &[u32],
+    mut code_for: impl FnMut(usize, &[u32]) -> u8,
+) -> Vec<(u8, Vec<u8>)> {
+    let part = |level| {
+        let nodes = nodes_of_level(values.len(), level);
+        let values = &values[nodes.start() - 1..*nodes.end()];
+        let code = code_for(level, values);
+        let part = encode(values, code).expect("the code holds the values");
+        (code, part)
+    };
+    (1..=height(values.len())).map(part).collect()
+}
+
+/// The bytes and levels of the tree of these times, with codes as in `parts_of_values`.
 pub fn levels_of(times: &[u32], code_for: impl FnMut(usize, &[u32]) -> u8) -> (Vec<u8>, Levels) {
     levels_of_values(&stored(times), code_for)
 }
@@ -133,7 +148,7 @@ pub fn levels_of(times: &[u32], code_for: impl FnMut(usize, &[u32]) -> u8) -> (V
 /// As `levels_of`, for nodes that store these values, whether or not a list makes them.
 pub fn levels_of_values(
     values: &[u32],
-    mut code_for: impl FnMut(usize, &[u32]) -> u8,
+    code_for: impl FnMut(usize, &[u32]) -> u8,
 ) -> (Vec<u8>, Levels) {
     // A part "begins mid-strip", so level 1 does not begin at 0.
     let mut s = vec![0xC5, 0x3A, 0xFF];
@@ -143,11 +158,8 @@ pub fn levels_of_values(
         ends: [0; HEIGHT + 1],
     };
     levels.ends[0] = s.len();
-    for level in 1..=height(values.len()) {
-        let nodes = nodes_of_level(values.len(), level);
-        let values = &values[nodes.start() - 1..*nodes.end()];
-        let code = code_for(level, values);
-        s.extend(encode(values, code).expect("the code holds the values"));
+    for (level, (code, part)) in (1..).zip(parts_of_values(values, code_for)) {
+        s.extend(part);
         levels.codes[level - 1] = code;
         levels.ends[level] = s.len();
     }

@@ -1,0 +1,45 @@
+-- The image of a list: the one strip that it packs to.
+use mathlib.Core.List.{List, [], _∷_, _++_}
+use Prim.Native.Nat.{ℕ, zero, suc}
+use lib.ListN.{length}
+use Rattle.codes.specs.Codes.{part}
+use Rattle.codes.specs.Choice.{chosen}
+use Rattle.tree.specs.declared.nodes.Levels.{Levels}
+use Rattle.tree.specs.Shape.{height}
+use Rattle.tree.specs.Stored.{storedValues}
+use Rattle.tree.specs.Levels.{levelValues}
+use Rattle.strip.specs.Layout.{fourBytes, header, laidOut}
+
+-- of the values in node order, those of the level below d others
+abbrev pub valuesAt : List ℕ → ℕ → List ℕ
+valuesAt values d = levelValues values (suc d)
+
+-- the code with fewest bits for them, and their part in it
+unfoldable pub codeFor : List ℕ → ℕ → ℕ
+codeFor values d = chosen (valuesAt values d) .code
+
+unfoldable pub partFor : List ℕ → ℕ → List ℕ
+partFor values d = part (codeFor values d) (valuesAt values d)
+
+abbrev pub lengthFor : List ℕ → ℕ → ℕ
+lengthFor values d = length (partFor values d)
+
+-- where the levels lie
+abbrev pub planned : List ℕ → Levels
+planned values = laidOut (length values) (codeFor values) (lengthFor values)
+
+-- one code byte and four bytes with the part's length
+abbrev pub entryFor : List ℕ → ℕ → List ℕ
+entryFor values d = codeFor values d ∷ fourBytes (lengthFor values d)
+
+-- what d levels have, one after the other
+unfoldable pub joined : (ℕ → List ℕ) → ℕ → List ℕ
+joined bytes zero = []
+joined bytes (suc d) = joined bytes d ++ bytes d
+
+-- the strip of values in node order
+unfoldable pub stripOf : List ℕ → List ℕ
+stripOf values = let h = height (length values) in header (length values) ++ joined (entryFor values) h ++ joined (partFor values) h
+
+abbrev pub image : List ℕ → List ℕ
+image xs = stripOf (storedValues xs)

@@ -1,0 +1,66 @@
+-- The bytes of a strip: its header, and where its levels lie.
+use mathlib.Core.List.{List, [], _∷_, _++_}
+use Prim.Native.Nat.{ℕ, zero, suc, _+_, _*_, _/_, _%_, _^_}
+use lib.ListN.{getD, set, replicate}
+use Rattle.tree.specs.declared.nodes.Levels.{Levels}
+use Rattle.tree.specs.Shape.{height}
+
+-- the greatest pin count
+abbrev pub maxPins : ℕ
+maxPins = 65535
+
+-- ---- multi-byte numbers have the high byte first
+
+abbrev pub twoBytes : ℕ → List ℕ
+twoBytes x = (x / 2 ^ 8 % 2 ^ 8) ∷ (x % 2 ^ 8) ∷ []
+
+abbrev pub fourBytes : ℕ → List ℕ
+fourBytes x = twoBytes (x / 2 ^ 16) ++ twoBytes x
+
+-- the number in the two or four bytes from byte a on
+abbrev pub twoAt : List ℕ → ℕ → ℕ
+twoAt s a = getD s a 0 * 2 ^ 8 + getD s (a + 1) 0
+
+abbrev pub fourAt : List ℕ → ℕ → ℕ
+fourAt s a = twoAt s a * 2 ^ 16 + twoAt s (a + 2)
+
+-- ---- the header
+
+-- bytes 0..2 are `PIN`, 3..4 the version, 1, and 5..6 n
+abbrev pub header : ℕ → List ℕ
+header n = 0x50 ∷ 0x49 ∷ 0x4e ∷ (twoBytes 1 ++ twoBytes n)
+
+abbrev pub pinsOf : List ℕ → ℕ
+pinsOf s = twoAt s 5
+
+-- Then, per level, one code byte and four bytes with the level part's length in bytes: here for the level below d others, which
+-- is level d + 1.
+abbrev pub codeAt : List ℕ → ℕ → ℕ
+codeAt s d = getD s (7 + 5 * d) 0
+
+abbrev pub lengthAt : List ℕ → ℕ → ℕ
+lengthAt s d = fourAt s (8 + 5 * d)
+
+-- then the parts in order
+abbrev pub partsStart : ℕ → ℕ
+partsStart n = 7 + 5 * height n
+
+-- ---- where the levels lie
+
+-- where d parts of these lengths end, one after the other
+unfoldable pub endAfter : ℕ → (ℕ → ℕ) → ℕ → ℕ
+endAfter start len zero = start
+endAfter start len (suc d) = endAfter start len d + len d
+
+-- the entries of d levels; those of further ones are 0
+unfoldable pub codesOf : (ℕ → ℕ) → ℕ → List ℕ
+codesOf code zero = replicate 16 0
+codesOf code (suc d) = set (codesOf code d) d (code d)
+
+unfoldable pub endsOf : ℕ → (ℕ → ℕ) → ℕ → List ℕ
+endsOf start len zero = set (replicate 17 0) 0 start
+endsOf start len (suc d) = set (endsOf start len d) (suc d) (endAfter start len (suc d))
+
+-- the levels of n pins whose codes and lengths these are
+unfoldable pub laidOut : ℕ → (ℕ → ℕ) → (ℕ → ℕ) → Levels
+laidOut n code len = record { pins = n; codes = codesOf code (height n); ends = endsOf (partsStart n) len (height n) }

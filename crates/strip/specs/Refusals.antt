@@ -1,0 +1,32 @@
+-- 01's number for each refusal of the code, and what it carries.
+use Prim.Native.Nat.{ℕ}
+use Rattle.strip.specs.declared.refusals.Refusal.{Refusal}
+use Rattle.strip.specs.declared.refusals.Refusal.the-variants.{Empty, TooMany, ListFalls, Short, Cut, Mark, Version, Code, Fetch, Time, Length, Position}
+
+abbrev pub refusalNumber : Refusal → ℕ
+refusalNumber Empty = 1
+refusalNumber TooMany = 2
+refusalNumber (ListFalls i) = 3
+refusalNumber (Short needed) = 4
+refusalNumber Cut = 5
+refusalNumber Mark = 6
+refusalNumber Version = 7
+refusalNumber (Code level) = 8
+refusalNumber (Fetch node) = 9
+refusalNumber (Time node) = 10
+refusalNumber Length = 13
+refusalNumber Position = 14
+
+abbrev pub carried : Refusal → ℕ
+carried Empty = 0
+carried TooMany = 0
+carried (ListFalls i) = i
+carried (Short needed) = needed
+carried Cut = 0
+carried Mark = 0
+carried Version = 0
+carried (Code level) = level
+carried (Fetch node) = node
+carried (Time node) = node
+carried Length = 0
+carried Position = 0

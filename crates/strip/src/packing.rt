@@ -1,0 +1,133 @@
+// The image of a list, level by level.
+use super::frame::put_four;
+use super::frame::put_two;
+use super::refusals::Refusal;
+use super::strip::Packed;
+use tree::Levels;
+ghost use mathlib.Core.Path.{_≡_};
+ghost use mathlib.Core.List.{List, [], _∷_, _++_};
+ghost use Prim.Native.Nat.{ℕ, _+_, _*_, _^_, _<_, _≤_};
+ghost use lib.ListN.{length, drop};
+ghost use Rattle.tree.specs.Shape.{height};
+ghost use Rattle.strip.specs.Lists.{firstLower};
+ghost use Rattle.strip.specs.Layout.{fourBytes, header};
+ghost use Rattle.strip.specs.Image.{entryFor, partFor, planned, joined, stripOf};
+ghost use Rattle.strip.specs.Outcomes.{verdict};
+ghost use Rattle.strip.specs.Calls.{packed, roomTest, written};
+
+// The first position that is lower than the one before it, or the length.
+pub(crate) fn first_lower(times: &[u32]) -> usize
+    ensures { λ r. ⌜ r ≡ firstLower (now (times .entry)) ⌝ }
+{
+    let n = times.len();
+    if n == 0 {
+        return 0;
+    }
+    let mut i: usize = 1;
+    while i < n {
+        if times[i] < times[i - 1] {
+            return i;
+        }
+        i += 1;
+    }
+    n
+}
+
+// Where the levels of the image lie: each takes the code with fewest bits.
+fn plan(values: &[u32]) -> Levels
+    requires { ⌜ length (now values) < 2 ^ 16 ⌝ }
+    ensures { λ r. ⌜ r ≡ planned (now (values .entry)) ⌝ }
+{
+    let n = values.len();
+    let h = tree::height(n);
+    let mut end = 7 + 5 * h;
+    let mut levels = Levels {
+        pins: n,
+        codes: [0; 16],
+        ends: [0; 17],
+    };
+    levels.ends[0] = end;
+    let mut d: usize = 0;
+    while d < h {
+        let choice = codes::choose(tree::level_values(values, d + 1));
+        end += (choice.size + 7) / 8;
+        levels.codes[d] = choice.code;
+        levels.ends[d + 1] = end;
+        d += 1;
+    }
+    levels
+}
+
+// Writes the mark, the version and the pin count.
+fn put_header(out: &mut [u8], n: usize)
+    requires { ⌜ 7 ≤ length (now out) ⌝ }
+    ensures { λ r. ⌜ now (out .exit) ≡ header n ++ drop 7 (now (out .entry)) ⌝ }
+{
+    out[0] = 0x50;
+    out[1] = 0x49;
+    out[2] = 0x4E;
+    put_two(&mut out[3..], 1);
+    put_two(&mut out[5..], n);
+}
+
+// Writes a level's code byte and the length of its part.
+fn put_entry(out: &mut [u8], code: u8, bytes: usize)
+    requires { ⌜ 5 ≤ length (now out) ⌝ }
+    ensures { λ r. ⌜ now (out .exit) ≡ (code ∷ fourBytes bytes) ++ drop 5 (now (out .entry)) ⌝ }
+{
+    out[0] = code;
+    put_four(&mut out[1..], bytes);
+}
+
+// Writes the entries of the levels, one after the other.
+fn put_entries(out: &mut [u8], levels: Levels)
+    requires { ⌜ 5 * height (levels .pins) ≤ length (now out) ⌝ }
+    requires { ⌜ ((vs : List ℕ) × (length vs < 2 ^ 16) × (levels ≡ planned vs)) ⌝ }
+    ensures { λ r. ⌜ ((vs : List ℕ) → levels ≡ planned vs → now (out .exit) ≡ joined (entryFor vs) (height (levels .pins)) ++ drop (5 * height (levels .pins)) (now (out .entry))) ⌝ }
+{
+    let h = tree::height(levels.pins);
+    let mut d: usize = 0;
+    while d < h {
+        let start = levels.ends[d];
+        let end = levels.ends[d + 1];
+        let code = levels.codes[d];
+        put_entry(&mut out[5 * d..], code, end - start);
+        d += 1;
+    }
+}
+
+// Writes the parts of the levels, one after the other. Half as many entries as there are values are enough to work in, since no
+// level has more.
+fn put_parts(out: &mut [u8], work: &mut [u32], values: &[u32], levels: Levels)
+    requires { ⌜ (length (now values) < 2 ^ 16) × (length (now values) + 1 ≤ 2 * length (now work)) × (levels ≡ planned (now values)) ⌝ }
+    requires { ⌜ length (joined (partFor (now values)) (height (levels .pins))) ≤ length (now out) ⌝ }
+    ensures { λ r. ⌜ now (out .exit) ≡ joined (partFor (now (values .entry))) (height (levels .pins)) ++ drop (length (joined (partFor (now (values .entry))) (height (levels .pins)))) (now (out .entry)) ⌝ }
+{
+    let h = tree::height(levels.pins);
+    let mut at: usize = 0;
+    let mut d: usize = 0;
+    while d < h {
+        let code = levels.codes[d];
+        at += codes::encode(&mut out[at..], work, tree::level_values(values, d + 1), code);
+        d += 1;
+    }
+}
+
+// Packs the values of a tree, in node order, where the output has room.
+pub(crate) fn pack_values(out: &mut [u8], work: &mut [u32], values: &[u32]) -> Packed
+    requires { ⌜ (length (now values) < 2 ^ 16) × (length (now values) + 1 ≤ 2 * length (now work)) ⌝ }
+    ensures { λ r. ⌜ packed r ≡ verdict (roomTest (length (now (out .entry))) (stripOf (now (values .entry))) ∷ []) (length (stripOf (now (values .entry)))) ⌝ }
+    ensures { λ r. ⌜ now (out .exit) ≡ written (verdict (roomTest (length (now (out .entry))) (stripOf (now (values .entry))) ∷ []) (length (stripOf (now (values .entry))))) (stripOf (now (values .entry))) (now (out .entry)) ⌝ }
+{
+    let levels = plan(values);
+    let h = tree::height(levels.pins);
+    let start = levels.ends[0];
+    let end = levels.ends[h];
+    if out.len() < end {
+        return Packed::Refused(Refusal::Short(end));
+    }
+    put_header(out, levels.pins);
+    put_entries(&mut out[7..], levels);
+    put_parts(&mut out[start..], work, values, levels);
+    Packed::Length(end)
+}

@@ -1,0 +1,41 @@
+// Why a call is refused, with what the refusal carries.
+ghost use mathlib.Core.Path.{_≡_};
+ghost use Rattle.tree.specs.Times.{numberOf, nodeOf};
+ghost use Rattle.strip.specs.Refusals.{refusalNumber, carried};
+
+pub enum Refusal {
+    // 1: no pins.
+    Empty,
+    // 2: more than 65,535 pins.
+    TooMany,
+    // 3: the list falls; the first lower position.
+    ListFalls(usize),
+    // 4: the output is shorter than needed; the bytes needed.
+    Short(usize),
+    // 5: the strip is cut short.
+    Cut,
+    // 6: a mark other than `PIN`.
+    Mark,
+    // 7: a version other than 1.
+    Version,
+    // 8: a level code; the level.
+    Code(usize),
+    // 9: a fetch passes its part, or its value is 2^32 or more; the node.
+    Fetch(usize),
+    // 10: a time below 0 or above 4,294,967,295; the node.
+    Time(usize),
+    // 13: a length that is not the header's and the parts'.
+    Length,
+    // 14: a position at or past the pin count.
+    Position,
+}
+
+// A walk's refusal as a strip's.
+pub(crate) fn of_walk(r: tree::Refusal) -> Refusal
+    ensures { λ x. ⌜ (refusalNumber x ≡ numberOf r) × (carried x ≡ nodeOf r) ⌝ }
+{
+    match r {
+        tree::Refusal::Fetch(v) => Refusal::Fetch(v),
+        tree::Refusal::Time(v) => Refusal::Time(v),
+    }
+}

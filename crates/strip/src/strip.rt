@@ -1,0 +1,147 @@
+// The strip type, with the calls. None requires anything.
+use super::opening::Status;
+use super::opening::opening_of;
+use super::packing::first_lower;
+use super::packing::pack_values;
+use super::refusals::Refusal;
+use super::refusals::of_walk;
+use tree::Levels;
+ghost use mathlib.Core.Path.{_≡_};
+ghost use Prim.Native.Nat.{_<_};
+ghost use lib.ListN.{length};
+ghost use Rattle.tree.specs.Shape.{height, rootPlace};
+ghost use Rattle.tree.specs.Levels.{Fits};
+ghost use Rattle.strip.specs.Calls.{packAnswer, packOutput, packed, accessOf, accessIn, accessed, searchOf, searchIn, upToOf, searched};
+
+pub struct Strip {}
+
+// The image's length in bytes.
+pub enum Packed {
+    Length(usize),
+    Refused(Refusal),
+}
+
+// The time at a position, with the nodes opened.
+pub enum Accessed {
+    Time(u32, usize),
+    Refused(Refusal),
+}
+
+// The position found, with the nodes opened.
+pub enum Searched {
+    Position(usize, usize),
+    Refused(Refusal),
+}
+
+// The greatest time.
+const GREATEST: u32 = 4294967295;
+
+// An access to a strip that is open.
+fn access_open(s: &[u8], levels: Levels, i: usize) -> Accessed
+    requires { ⌜ Fits levels (now s) ⌝ }
+    ensures { λ r. ⌜ accessed r ≡ accessIn (now (s .entry)) i levels ⌝ }
+{
+    if i >= levels.pins {
+        return Accessed::Refused(Refusal::Position);
+    }
+    let found = tree::access(s, levels, i);
+    match found {
+        tree::Accessed::Time(t, nodes) => Accessed::Time(t, nodes),
+        tree::Accessed::Refused(r) => Accessed::Refused(of_walk(r)),
+    }
+}
+
+// A search of a strip that is open.
+fn search_open(s: &[u8], levels: Levels, target: u32) -> Searched
+    requires { ⌜ Fits levels (now s) ⌝ }
+    ensures { λ r. ⌜ searched r ≡ searchIn (now (s .entry)) target levels ⌝ }
+{
+    let found = tree::search(s, levels, target);
+    match found {
+        tree::Searched::Position(p, nodes) => Searched::Position(p, nodes),
+        tree::Searched::Refused(r) => Searched::Refused(of_walk(r)),
+    }
+}
+
+impl Strip {
+    // The greatest pin count and the greatest height.
+    pub const MAX_PINS: usize = 65535;
+    pub const MAX_HEIGHT: usize = 16;
+
+    // The height of n pins.
+    pub fn height(n: usize) -> usize
+        ensures { λ r. ⌜ r ≡ height n ⌝ }
+    {
+        tree::height(n)
+    }
+
+    // The root's place in a list of n, counted from 1; 0 for an empty list.
+    pub fn root_place(n: usize) -> usize
+        ensures { λ r. ⌜ r ≡ rootPlace n ⌝ }
+    {
+        tree::root_place(n)
+    }
+
+    // Writes the image of a list to the front of the output.
+    pub fn pack(out: &mut [u8], times: &[u32]) -> Packed
+        ensures { λ r. ⌜ packed r ≡ packAnswer (now (times .entry)) (length (now (out .entry))) ⌝ }
+        ensures { λ r. ⌜ now (out .exit) ≡ packOutput (now (times .entry)) (now (out .entry)) ⌝ }
+    {
+        let n = times.len();
+        if n == 0 {
+            return Packed::Refused(Refusal::Empty);
+        }
+        if n > Strip::MAX_PINS {
+            return Packed::Refused(Refusal::TooMany);
+        }
+        let lower = first_lower(times);
+        if lower < n {
+            return Packed::Refused(Refusal::ListFalls(lower));
+        }
+        let mut values = [0u32; 65535];
+        let mut work = [0u32; 32768];
+        tree::construct(&mut values, times);
+        pack_values(out, &mut work, &values[..n])
+    }
+
+    // The time at position i.
+    pub fn access(s: &[u8], i: usize) -> Accessed
+        ensures { λ r. ⌜ accessed r ≡ accessOf (now (s .entry)) i ⌝ }
+    {
+        let opening = opening_of(s);
+        let status = opening.status;
+        match status {
+            Status::Open => access_open(s, opening.levels, i),
+            Status::Refused(r) => Accessed::Refused(r),
+        }
+    }
+
+    // The number of strikes before the target, on an accepted strip.
+    pub fn search(s: &[u8], target: u32) -> Searched
+        ensures { λ r. ⌜ searched r ≡ searchOf (now (s .entry)) target ⌝ }
+    {
+        let opening = opening_of(s);
+        let status = opening.status;
+        match status {
+            Status::Open => search_open(s, opening.levels, target),
+            Status::Refused(r) => Searched::Refused(r),
+        }
+    }
+
+    // The number of strikes at or before time t, on an accepted strip.
+    pub fn up_to(s: &[u8], t: u32) -> Searched
+        ensures { λ r. ⌜ searched r ≡ upToOf (now (s .entry)) t ⌝ }
+    {
+        let opening = opening_of(s);
+        let status = opening.status;
+        match status {
+            Status::Open => {
+                if t == GREATEST {
+                    return Searched::Position(opening.levels.pins, 0);
+                }
+                search_open(s, opening.levels, t + 1)
+            }
+            Status::Refused(r) => Searched::Refused(r),
+        }
+    }
+}

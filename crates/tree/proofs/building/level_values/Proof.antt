@@ -1,0 +1,63 @@
+-- `level_values` meets its contract.
+use native.Mathlib.Omega.{arith}
+use mathlib.Core.Path.{_≡_}
+use Prim.Native.Nat.{ℕ, suc, _-_, _*_, _^_, _≤_, min}
+use lib.ListN.{length}
+use lib.Pow.{pow-pos}
+use borrow.Author.Needs.{needs}
+use Rattle.tree.specs.Levels.{firstOf, countOf}
+use Rattle.tree.proofs.Heights.{level-starts, height-le}
+use Rattle.tree.proofs.building.level_values.Statement.{statement}
+use Rattle.tree.proofs.building.level_values.Tie as tie
+
+sub-power-of-two : tie.Need-sub-power-of-two
+sub-power-of-two c = search needs
+
+power-of-two-requires : tie.Need-power-of-two-requires
+power-of-two-requires c κs = omega (arith, height-le (length (c .before .args .values .now)) 63 (omega arith))
+
+mul-least : tie.Need-mul-least
+mul-least c = omega (arith, level-starts (length (c .before .before .args .values .now)) (c .before .before .args .level) (omega arith) (omega arith))
+
+sub-least : tie.Need-sub-least
+sub-least c = omega (arith, pow-pos (c .before .before .args .level - 1))
+
+least-requires : tie.Need-least-requires
+least-requires c κs = tt
+
+sub-result : tie.Need-sub-result
+sub-result c = omega (arith, pow-pos (c .before .before .before .args .level - 1))
+
+mul-result : tie.Need-mul-result
+mul-result c =
+    omega (arith, level-starts (length (c .before .before .before .args .values .now)) (c .before .before .before .args .level) (omega arith) (omega arith))
+
+sub-result-2 : tie.Need-sub-result-2
+sub-result-2 c =
+    omega (arith, level-starts (length (c .before .before .before .args .values .now)) (c .before .before .before .args .level) (omega arith) (omega arith))
+
+part-result-start : tie.Need-part-result-start
+part-result-start c =
+    omega (arith, level-starts (length (c .before .before .before .args .values .now)) (c .before .before .before .args .level) (omega arith) (omega arith))
+
+part-result-end : tie.Need-part-result-end
+part-result-end c = search needs
+
+-- a level's end less its start is its count
+between : (n l : ℕ) → 1 ≤ l → min n (2 * firstOf l - 1) - (firstOf l - 1) ≡ countOf n l
+between n (suc k) h =
+    let e : suc k - 1 ≡ k = omega arith in
+    let q : 2 ^ suc k ≡ 2 * 2 ^ k = omega arith in
+    rw (e, q) (less (min n (2 * 2 ^ k - 1)) (2 ^ k) (pow-pos k))
+  where
+    less : (m p : ℕ) → 1 ≤ p → m - (p - 1) ≡ suc m - p
+    less m p h = omega arith
+
+returns : tie.Need-returns
+returns c =
+    let a = c .before .before .before .before .args in
+    rw (c .before .least .ensures, c .before .before .power-of-two .ensures, between (length (a .values .now)) (a .level) (c .before .before .before .before .pre .0))
+
+pub level-values-spec : {M : Type 1} → statement M
+level-values-spec =
+    tie.close (tie.spec sub-power-of-two power-of-two-requires mul-least sub-least least-requires sub-result mul-result sub-result-2 part-result-start part-result-end returns)

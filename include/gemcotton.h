@@ -1,0 +1,74 @@
+/* The calls on pin strips, for programs in C. Link with the static library that `rt staticlib strip_c` builds.
+ *
+ * A list is strike times in milliseconds, none less than the one before; positions run from 0. A strip is bytes of any content
+ * and length: every call answers on any input, and none needs the answer of another.
+ *
+ * Memory: a pointer and the length after it, in entries, name what is lent. A pointer is not null, even where its length is 0,
+ * and what is written overlaps nothing else that is lent. No call keeps a pointer. A call writes only where its comment says
+ * so, and nothing at a refusal.
+ */
+#ifndef GEMCOTTON_H
+#define GEMCOTTON_H
+
+#include <stddef.h>
+#include <stdint.h>
+
+#ifdef __cplusplus
+extern "C" {
+#endif
+
+/* The greatest pin count and the greatest height of a strip. */
+#define GEMCOTTON_MAX_PINS 65535
+#define GEMCOTTON_MAX_HEIGHT 16
+
+/* Refusals, with what they carry. */
+enum gemcotton_refusal {
+  GEMCOTTON_NONE = 0,
+  GEMCOTTON_EMPTY = 1,      /* no pins: 0 */
+  GEMCOTTON_TOO_MANY = 2,   /* more than 65,535 pins: 0 */
+  GEMCOTTON_LIST_FALLS = 3, /* the list falls: the first lower position */
+  GEMCOTTON_SHORT = 4,      /* the output is shorter than needed: the bytes needed */
+  GEMCOTTON_CUT = 5,        /* the strip is cut short: 0 */
+  GEMCOTTON_MARK = 6,       /* a mark other than PIN: 0 */
+  GEMCOTTON_VERSION = 7,    /* a version other than 1: 0 */
+  GEMCOTTON_CODE = 8,       /* a level code: the level, counted from 1 */
+  GEMCOTTON_FETCH = 9,      /* a fetch passes its part, or its value is 2^32 or more: the node */
+  GEMCOTTON_TIME = 10,      /* a time below 0 or above 4,294,967,295: the node */
+  GEMCOTTON_LENGTH = 13,    /* a length that is not the header's and the parts': 0 */
+  GEMCOTTON_POSITION = 14   /* a position at or past the pin count: 0 */
+};
+
+/* `refusal` is 0 where the call is not refused; `value` is then what it gives, and `nodes` the nodes that it opened. Otherwise
+ * `refusal` is a number of the list above, `value` what it carries, and `nodes` 0. */
+struct gemcotton_answer {
+  size_t refusal;
+  size_t value;
+  size_t nodes;
+};
+
+/* Height of the tree of n pins, and the root's place in a list of n, counted from 1 (0 for an empty list). */
+size_t gemcotton_height(size_t n);
+size_t gemcotton_root_place(size_t n);
+
+/* Packs the list into the front of `out`, whose later bytes keep their content. Gives the strip's length in bytes; no nodes.
+ * Refused, in this order: 1, 2, 3, 4. */
+struct gemcotton_answer gemcotton_pack(uint8_t *out, size_t out_length, const uint32_t *times, size_t times_length);
+
+/* The reading calls open the strip first, refused in this order: 5, 6, 7, 1, 5, 8, 13. */
+
+/* Gives the time at position i and the nodes opened. Refused: 14, then 9 or 10 at the first node that has it. */
+struct gemcotton_answer gemcotton_access(const uint8_t *strip, size_t strip_length, size_t i);
+
+/* Gives the position of the first strike at or after the target, or the pin count, and the nodes opened. On a strip that no list packs
+ * to it is the position that the same steps lead to. Refused: 9 or 10 at the first node that has it. */
+struct gemcotton_answer gemcotton_search(const uint8_t *strip, size_t strip_length, uint32_t target);
+
+/* Gives the number of strikes at or before the time, and the nodes opened: the pin count and 0 nodes for 4,294,967,295, otherwise as
+ * a search for the time plus 1. */
+struct gemcotton_answer gemcotton_up_to(const uint8_t *strip, size_t strip_length, uint32_t time);
+
+#ifdef __cplusplus
+}
+#endif
+
+#endif

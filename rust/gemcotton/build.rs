@@ -1,0 +1,5 @@
+mod link;
+
+fn main() {
+    link::archives("../..", &["strip_c"]);
+}

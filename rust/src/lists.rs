@@ -1,0 +1,167 @@
+//! Lists for the tests of trees and strips, and what must be answered on them.
+
+use crate::random::Random;
+use crate::reference::tree::{height, ranks};
+
+/// Counts around the powers of two and three times these, where the height or the root's
+/// case changes, up to the limit. The greatest count of all is among them.
+pub fn around_powers(limit: usize) -> Vec<usize> {
+    let mut counts = Vec::new();
+    for k in 0..=64 {
+        for power in [1u128 << k, 3 << k] {
+            counts.extend(power.saturating_sub(3)..=power + 3);
+        }
+    }
+    counts.retain(|&n| n <= limit as u128);
+    counts.sort();
+    counts.dedup();
+    counts.into_iter().map(|n| n as usize).collect()
+}
+
+/// The pin counts of most damaged trees and strips.
+pub fn few_pins() -> impl Iterator<Item = usize> {
+    (1..=20).chain([31, 32, 47, 48, 63, 64, 300])
+}
+
+// ---- Lists ----
+
+/// n times with these gaps. Where they would pass the greatest time, they stay there.
+pub fn rising(n: usize, mut gap: impl FnMut() -> u32) -> Vec<u32> {
+    let mut time = 0u32;
+    let next = |_| {
+        time = time.saturating_add(gap());
+        time
+    };
+    (0..n).map(next).collect()
+}
+
+pub fn sorted(mut times: Vec<u32>) -> Vec<u32> {
+    times.sort();
+    times
+}
+
+const SHAPES: usize = 13;
+
+/// A list of n times: chords, small and huge gaps, the least and the greatest time.
+fn list(n: usize, shape: usize, random: &mut Random) -> Vec<u32> {
+    match shape {
+        0 => vec![0; n],
+        1 => vec![random.skewed(); n],
+        2 => vec![u32::MAX; n],
+        3 => (0..n as u32).collect(),
+        4 => (0..n as u32).rev().map(|i| u32::MAX - i).collect(),
+        // One gap, as great as can be.
+        5 => {
+            let jump = random.below(n + 1);
+            let time = |i| if i < jump { 0 } else { u32::MAX };
+            (0..n).map(time).collect()
+        }
+        // Nine gaps in ten are 0.
+        6 => rising(n, || match random.below(10) {
+            0 => random.of_width(7),
+            _ => 0,
+        }),
+        7 => rising(n, || random.of_width(2)),
+        8 => rising(n, || random.of_width(16)),
+        9 => rising(n, || random.skewed() & random.skewed() & random.skewed()),
+        // Close together at the least times, and at the greatest.
+        10 => sorted((0..n).map(|_| random.skewed()).collect()),
+        11 => sorted((0..n).map(|_| !random.skewed()).collect()),
+        _ => {
+            let mut ends = sorted((0..n).map(|_| random.of_width(32)).collect());
+            if let [first, .., last] = &mut ends[..] {
+                (*first, *last) = (0, u32::MAX);
+            }
+            ends
+        }
+    }
+}
+
+/// Lists of n times of all sorts.
+pub fn lists(n: usize, random: &mut Random) -> Vec<Vec<u32>> {
+    few_lists(n, SHAPES, random)
+}
+
+/// A few of those lists.
+pub fn few_lists(n: usize, count: usize, random: &mut Random) -> Vec<Vec<u32>> {
+    let mut shapes: Vec<usize> = (0..SHAPES).collect();
+    while shapes.len() > count {
+        shapes.swap_remove(random.below(shapes.len()));
+    }
+    let list = |shape| list(n, shape, random);
+    shapes.into_iter().map(list).collect()
+}
+
+// ---- What is asked ----
+
+/// Every position of a short list, some of a long one.
+pub fn some_positions(n: usize, random: &mut Random) -> Vec<usize> {
+    if n <= 20 {
+        return (0..n).collect();
+    }
+    let mut positions = vec![0, 1, n / 2, n - 2, n - 1];
+    positions.extend((0..5).map(|_| random.below(n)));
+    positions
+}
+
+/// Each time, one more and one less, the ends, and random targets.
+pub fn targets(times: &[u32], random: &mut Random) -> Vec<u32> {
+    let mut targets: Vec<u32> = times
+        .iter()
+        .flat_map(|&time| [time.saturating_sub(1), time, time.saturating_add(1)])
+        .collect();
+    targets.extend([0, u32::MAX, random.skewed(), random.of_width(32)]);
+    targets.dedup();
+    targets
+}
+
+// ---- What must be answered ----
+
+/// What a list's tree or strip must answer, told by the list and the ranks alone.
+pub struct Answers<'a> {
+    times: &'a [u32],
+    ranks: Vec<usize>,
+    /// The nodes opened to reach each position.
+    nodes: Vec<usize>,
+}
+
+impl<'a> Answers<'a> {
+    pub fn new(times: &'a [u32]) -> Self {
+        let ranks = ranks(times.len());
+        let mut nodes = vec![0; times.len()];
+        for (v, &rank) in (1..).zip(&ranks) {
+            // A tree of v nodes ends with the level that v is in.
+            nodes[rank] = height(v);
+        }
+        Answers {
+            times,
+            ranks,
+            nodes,
+        }
+    }
+
+    /// The time at position i and the nodes opened.
+    pub fn access(&self, i: usize) -> (u32, usize) {
+        (self.times[i], self.nodes[i])
+    }
+
+    /// The number of times below t, and the nodes opened. "From each node it goes to the left
+    /// child when the plain list's time at that node's rank is at or above the target, else
+    /// to the right child".
+    pub fn search(&self, t: u32) -> (usize, usize) {
+        let (mut v, mut nodes) = (1, 0);
+        while v <= self.times.len() {
+            nodes += 1;
+            let time = self.times[self.ranks[v - 1]];
+            v = if time >= t { 2 * v } else { 2 * v + 1 };
+        }
+        (self.times.partition_point(|&time| time < t), nodes)
+    }
+
+    /// The number of times up to t, and the nodes opened. "It gives n and 0 nodes for
+    /// t = 4,294,967,295, otherwise search at t + 1 with its count."
+    pub fn up_to(&self, t: u32) -> (usize, usize) {
+        let nodes = t.checked_add(1).map_or(0, |next| self.search(next).1);
+        (self.times.partition_point(|&time| time <= t), nodes)
+    }
+}

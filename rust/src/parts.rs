@@ -1,0 +1,51 @@
+//! Codes and parts for the tests.
+
+use crate::random::Random;
+use crate::reference::choose;
+
+/// The code that pack chooses.
+pub fn chosen(_: usize, values: &[u32]) -> u8 {
+    choose(values).0
+}
+
+/// Names a random one of the codes that hold the values.
+pub fn any_code(random: &mut Random) -> impl FnMut(usize, &[u32]) -> u8 + '_ {
+    |_, values| {
+        let width = 32 - values.iter().max().map_or(32, |v| v.leading_zeros());
+        let codes: Vec<u8> = (width as u8..=32).chain(65..=72).collect();
+        codes[random.below(codes.len())]
+    }
+}
+
+/// A part with these chunks for each value, least significant first, whether or not an
+/// encoder would write them.
+pub fn part_of_chunks(values: &[Vec<u32>], b: u32) -> Vec<u8> {
+    let mut bits = Vec::new();
+    for layer in 0.. {
+        let here: Vec<&Vec<u32>> = values.iter().filter(|v| v.len() > layer).collect();
+        if here.is_empty() {
+            break;
+        }
+        bits.extend(here.iter().map(|v| u8::from(v.len() > layer + 1)));
+        for chunks in here {
+            bits.extend((0..b).rev().map(|place| (chunks[layer] >> place & 1) as u8));
+        }
+    }
+    bits.chunks(8)
+        .map(|byte| {
+            let filled = byte.iter().fold(0, |sum, bit| sum << 1 | bit);
+            filled << (8 - byte.len())
+        })
+        .collect()
+}
+
+/// The chunks of a number that may pass 2^32.
+pub fn chunks(number: u64, b: u32) -> Vec<u32> {
+    let mut chunks = vec![(number % (1 << b)) as u32];
+    let mut rest = number >> b;
+    while rest > 0 {
+        chunks.push((rest % (1 << b)) as u32);
+        rest >>= b;
+    }
+    chunks
+}

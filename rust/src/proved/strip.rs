@@ -1,0 +1,33 @@
+//! The proved strip calls, by the crate for users, with answers told as the others tell them.
+
+use crate::reference::strip::Refusal;
+
+fn refusal(refusal: gemcotton::Refusal) -> Refusal {
+    Refusal {
+        number: refusal.number(),
+        carried: refusal.carried(),
+    }
+}
+
+#[inline]
+pub fn pack(times: &[u32], out: &mut [u8]) -> Result<usize, Refusal> {
+    gemcotton::pack(times, out).map_err(refusal)
+}
+
+#[inline]
+pub fn access(strip: &[u8], i: usize) -> Result<(u32, usize), Refusal> {
+    let found = gemcotton::access(strip, i).map_err(refusal)?;
+    Ok((found.time, found.nodes))
+}
+
+#[inline]
+pub fn search(strip: &[u8], t: u32) -> Result<(usize, usize), Refusal> {
+    let found = gemcotton::search(strip, t).map_err(refusal)?;
+    Ok((found.position, found.nodes))
+}
+
+#[inline]
+pub fn up_to(strip: &[u8], t: u32) -> Result<(usize, usize), Refusal> {
+    let found = gemcotton::up_to(strip, t).map_err(refusal)?;
+    Ok((found.strikes, found.nodes))
+}

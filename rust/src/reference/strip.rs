@@ -1,0 +1,166 @@
+//! The scope's strip and the calls on it. Slow on purpose: each function follows the scope's
+//! sentences and nothing else.
+
+use super::tree::{self, height, parts_of_values, stored, Levels, HEIGHT};
+use super::{choose, kind, Kind};
+
+/// "The greatest pin count, 65,535".
+pub const PINS: usize = 65_535;
+
+/// A refusal's number and what it carries.
+#[derive(Debug, PartialEq, Clone, Copy)]
+pub struct Refusal {
+    pub number: usize,
+    pub carried: usize,
+}
+
+fn refuse<T>(number: usize, carried: usize) -> Result<T, Refusal> {
+    Err(Refusal { number, carried })
+}
+
+impl From<tree::Refusal> for Refusal {
+    fn from(refusal: tree::Refusal) -> Refusal {
+        let (number, carried) = match refusal {
+            tree::Refusal::Fetch(node) => (9, node),
+            tree::Refusal::Time(node) => (10, node),
+        };
+        Refusal { number, carried }
+    }
+}
+
+/// "Multi-byte numbers have the high byte first."
+fn write(bytes: &mut Vec<u8>, number: usize, length: usize) {
+    for place in (0..length).rev() {
+        bytes.push((number as u128 >> (8 * place)) as u8);
+    }
+}
+
+/// The number that these bytes are, high byte first.
+fn number(bytes: &[u8]) -> usize {
+    bytes
+        .iter()
+        .fold(0, |sum, &byte| 256 * sum + usize::from(byte))
+}
+
+/// The bytes of a strip of n pins with these codes and parts, level by level.
+pub fn image(n: usize, levels: &[(u8, Vec<u8>)]) -> Vec<u8> {
+    // "Bytes 0..2 are `PIN` (50 49 4E hex), 3..4 the version, 1, and 5..6 n."
+    let mut strip = vec![0x50, 0x49, 0x4E];
+    write(&mut strip, 1, 2);
+    write(&mut strip, n, 2);
+    // "Then, per level, one code byte and four bytes with the level part's length in bytes."
+    for (code, part) in levels {
+        strip.push(*code);
+        write(&mut strip, part.len(), 4);
+    }
+    // "Then the parts in order."
+    for (_, part) in levels {
+        strip.extend(part);
+    }
+    strip
+}
+
+/// "Pack: order 1, 2, 3, 4. Writes the image at the front". The image, where the output has
+/// this room.
+pub fn pack(times: &[u32], room: usize) -> Result<Vec<u8>, Refusal> {
+    let n = times.len();
+    // 1: "n is 0".
+    if n == 0 {
+        return refuse(1, 0);
+    }
+    // 2: "n over 65,535".
+    if n > PINS {
+        return refuse(2, 0);
+    }
+    // 3: "list falls", with the "first lower position".
+    for i in 1..n {
+        if times[i] < times[i - 1] {
+            return refuse(3, i);
+        }
+    }
+    // "Pack chooses the code with fewest bits before padding."
+    let levels = parts_of_values(&stored(times), |_, values| choose(values).0);
+    let image = image(n, &levels);
+    // 4: "output shorter than needed", with the "bytes (pack) [...] needed".
+    if room < image.len() {
+        return refuse(4, image.len());
+    }
+    Ok(image)
+}
+
+/// "Opening, done first by every reading call, tests in this order: 5 (under 7 bytes), 6, 7,
+/// 1, 5 (under 7 + 5h), 8 from level 1 on, 13."
+fn open(strip: &[u8]) -> Result<Levels, Refusal> {
+    // 5: "strip cut short".
+    if strip.len() < 7 {
+        return refuse(5, 0);
+    }
+    // 6: "mark other than `PIN`".
+    if strip[0..3] != [0x50, 0x49, 0x4E] {
+        return refuse(6, 0);
+    }
+    // 7: "version other than 1".
+    if number(&strip[3..5]) != 1 {
+        return refuse(7, 0);
+    }
+    // 1: "n is 0".
+    let n = number(&strip[5..7]);
+    if n == 0 {
+        return refuse(1, 0);
+    }
+    let h = height(n);
+    if strip.len() < 7 + 5 * h {
+        return refuse(5, 0);
+    }
+    // Level L's five bytes begin here.
+    let entry = |level: usize| 7 + 5 * (level - 1);
+    // 8: "level code", with the level.
+    for level in 1..=h {
+        if kind(strip[entry(level)]) == Kind::Refused {
+            return refuse(8, level);
+        }
+    }
+    // 13: "length not 7 + 5h + parts". The sum is wide, so that no lengths make it overflow.
+    let length = |level: usize| number(&strip[entry(level) + 1..entry(level) + 5]);
+    let parts: u128 = (1..=h).map(|level| length(level) as u128).sum();
+    if strip.len() as u128 != (7 + 5 * h) as u128 + parts {
+        return refuse(13, 0);
+    }
+    let mut levels = Levels {
+        pins: n,
+        codes: [255; HEIGHT],
+        ends: [0; HEIGHT + 1],
+    };
+    levels.ends[0] = 7 + 5 * h;
+    for level in 1..=h {
+        levels.codes[level - 1] = strip[entry(level)];
+        levels.ends[level] = levels.ends[level - 1] + length(level);
+    }
+    Ok(levels)
+}
+
+/// "Access i: 14, then fetches from the root to rank i. Gives time and nodes opened."
+pub fn access(strip: &[u8], i: usize) -> Result<(u32, usize), Refusal> {
+    let levels = open(strip)?;
+    // 14: "position >= n".
+    if i >= levels.pins {
+        return refuse(14, 0);
+    }
+    Ok(tree::access(strip, &levels, i)?)
+}
+
+/// "Search t [...] Gives position and nodes opened."
+pub fn search(strip: &[u8], t: u32) -> Result<(usize, usize), Refusal> {
+    let levels = open(strip)?;
+    Ok(tree::search(strip, &levels, t)?)
+}
+
+/// "Up-to t: strikes at or before t. It gives n and 0 nodes for t = 4,294,967,295, otherwise
+/// search at t + 1 with its count."
+pub fn up_to(strip: &[u8], t: u32) -> Result<(usize, usize), Refusal> {
+    if t == 4_294_967_295 {
+        let levels = open(strip)?;
+        return Ok((levels.pins, 0));
+    }
+    search(strip, t + 1)
+}
