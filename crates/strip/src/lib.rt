@@ -1,5 +1,5 @@
 // Pin strips: their bytes, and the calls on them.
-mod frame; // numbers of several bytes
+mod numbers; // numbers of several bytes
 mod opening; // the tests that every reading call makes first, and where the levels lie
 mod packing; // the image of a list
 mod refusals; // why a call is refused

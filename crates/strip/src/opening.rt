@@ -1,6 +1,6 @@
 // Opening: the tests that every reading call makes first, and where the levels lie.
-use super::frame::four_at;
-use super::frame::two_at;
+use super::numbers::four_at;
+use super::numbers::two_at;
 use super::refusals::Refusal;
 use codes::Kind;
 use tree::Levels;

@@ -1,17 +1,16 @@
 // The image of a list, level by level.
-use super::frame::put_four;
-use super::frame::put_two;
 use super::refusals::Refusal;
 use super::strip::Packed;
 use tree::Levels;
 ghost use mathlib.Core.Path.{_≡_};
-ghost use mathlib.Core.List.{List, [], _∷_, _++_};
+ghost use mathlib.Core.List.{List, [], _∷_};
 ghost use Prim.Native.Nat.{ℕ, _+_, _*_, _^_, _<_, _≤_};
-ghost use lib.ListN.{length, drop};
+ghost use lib.ListN.{length};
+ghost use lib.Seq.{sets};
 ghost use Rattle.tree.specs.Shape.{height};
 ghost use Rattle.strip.specs.Lists.{firstLower};
-ghost use Rattle.strip.specs.Layout.{fourBytes, header};
-ghost use Rattle.strip.specs.Image.{entryFor, partFor, planned, joined, stripOf};
+ghost use Rattle.strip.specs.Layout.{fourBytes, header, partsStart};
+ghost use Rattle.strip.specs.Image.{entryFor, partFor, planned, joined, stripOf, replaced};
 ghost use Rattle.strip.specs.Outcomes.{verdict};
 ghost use Rattle.strip.specs.Calls.{packed, roomTest, written};
 
@@ -20,9 +19,6 @@ pub(crate) fn first_lower(times: &[u32]) -> usize
     ensures { λ r. ⌜ r ≡ firstLower (now (times .entry)) ⌝ }
 {
     let n = times.len();
-    if n == 0 {
-        return 0;
-    }
     let mut i: usize = 1;
     while i < n {
         if times[i] < times[i - 1] {
@@ -61,29 +57,34 @@ fn plan(values: &[u32]) -> Levels
 // Writes the mark, the version and the pin count.
 fn put_header(out: &mut [u8], n: usize)
     requires { ⌜ 7 ≤ length (now out) ⌝ }
-    ensures { λ r. ⌜ now (out .exit) ≡ header n ++ drop 7 (now (out .entry)) ⌝ }
+    ensures { λ r. ⌜ now (out .exit) ≡ sets (now (out .entry)) 0 (header n) ⌝ }
 {
     out[0] = 0x50;
     out[1] = 0x49;
     out[2] = 0x4E;
-    put_two(&mut out[3..], 1);
-    put_two(&mut out[5..], n);
+    out[3] = 0;
+    out[4] = 1;
+    out[5] = (n / 256 % 256) as u8;
+    out[6] = (n % 256) as u8;
 }
 
-// Writes a level's code byte and the length of its part.
-fn put_entry(out: &mut [u8], code: u8, bytes: usize)
-    requires { ⌜ 5 ≤ length (now out) ⌝ }
-    ensures { λ r. ⌜ now (out .exit) ≡ (code ∷ fourBytes bytes) ++ drop 5 (now (out .entry)) ⌝ }
+// Writes a level's code byte and the length of its part, from byte `at` on.
+fn put_entry(out: &mut [u8], at: usize, code: u8, bytes: usize)
+    requires { ⌜ at + 5 ≤ length (now out) ⌝ }
+    ensures { λ r. ⌜ now (out .exit) ≡ sets (now (out .entry)) at (code ∷ fourBytes bytes) ⌝ }
 {
-    out[0] = code;
-    put_four(&mut out[1..], bytes);
+    out[at] = code;
+    out[at + 1] = (bytes / 65536 / 256 % 256) as u8;
+    out[at + 2] = (bytes / 65536 % 256) as u8;
+    out[at + 3] = (bytes / 256 % 256) as u8;
+    out[at + 4] = (bytes % 256) as u8;
 }
 
-// Writes the entries of the levels, one after the other.
+// Writes the entries of the levels after the header.
 fn put_entries(out: &mut [u8], levels: Levels)
-    requires { ⌜ 5 * height (levels .pins) ≤ length (now out) ⌝ }
+    requires { ⌜ partsStart (levels .pins) ≤ length (now out) ⌝ }
     requires { ⌜ ((vs : List ℕ) × (length vs < 2 ^ 16) × (levels ≡ planned vs)) ⌝ }
-    ensures { λ r. ⌜ ((vs : List ℕ) → levels ≡ planned vs → now (out .exit) ≡ joined (entryFor vs) (height (levels .pins)) ++ drop (5 * height (levels .pins)) (now (out .entry))) ⌝ }
+    ensures { λ r. ⌜ ((vs : List ℕ) → levels ≡ planned vs → now (out .exit) ≡ replaced (now (out .entry)) 7 (joined (entryFor vs) (height (levels .pins)))) ⌝ }
 {
     let h = tree::height(levels.pins);
     let mut d: usize = 0;
@@ -91,20 +92,20 @@ fn put_entries(out: &mut [u8], levels: Levels)
         let start = levels.ends[d];
         let end = levels.ends[d + 1];
         let code = levels.codes[d];
-        put_entry(&mut out[5 * d..], code, end - start);
+        put_entry(out, 7 + 5 * d, code, end - start);
         d += 1;
     }
 }
 
-// Writes the parts of the levels, one after the other. Half as many entries as there are values are enough to work in, since no
-// level has more.
+// Writes the parts of the levels after the entries. Half as many entries as there are values are enough to work in, since no level
+// has more.
 fn put_parts(out: &mut [u8], work: &mut [u32], values: &[u32], levels: Levels)
     requires { ⌜ (length (now values) < 2 ^ 16) × (length (now values) + 1 ≤ 2 * length (now work)) × (levels ≡ planned (now values)) ⌝ }
-    requires { ⌜ length (joined (partFor (now values)) (height (levels .pins))) ≤ length (now out) ⌝ }
-    ensures { λ r. ⌜ now (out .exit) ≡ joined (partFor (now (values .entry))) (height (levels .pins)) ++ drop (length (joined (partFor (now (values .entry))) (height (levels .pins)))) (now (out .entry)) ⌝ }
+    requires { ⌜ length (stripOf (now values)) ≤ length (now out) ⌝ }
+    ensures { λ r. ⌜ now (out .exit) ≡ replaced (now (out .entry)) (partsStart (levels .pins)) (joined (partFor (now (values .entry))) (height (levels .pins))) ⌝ }
 {
     let h = tree::height(levels.pins);
-    let mut at: usize = 0;
+    let mut at = levels.ends[0];
     let mut d: usize = 0;
     while d < h {
         let code = levels.codes[d];
@@ -121,13 +122,12 @@ pub(crate) fn pack_values(out: &mut [u8], work: &mut [u32], values: &[u32]) -> P
 {
     let levels = plan(values);
     let h = tree::height(levels.pins);
-    let start = levels.ends[0];
     let end = levels.ends[h];
     if out.len() < end {
         return Packed::Refused(Refusal::Short(end));
     }
     put_header(out, levels.pins);
-    put_entries(&mut out[7..], levels);
-    put_parts(&mut out[start..], work, values, levels);
+    put_entries(out, levels);
+    put_parts(out, work, values, levels);
     Packed::Length(end)
 }

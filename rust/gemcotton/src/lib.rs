@@ -64,7 +64,7 @@ pub enum Refusal {
     Mark,
     /// 7: the strip's version is not 1.
     Version,
-    /// 8: a level's code is none.
+    /// 8: a level has a refused code.
     Code {
         /// The first such level, counted from 1.
         level: usize,
@@ -147,14 +147,16 @@ impl fmt::Display for Refusal {
             Refusal::Empty => write!(f, "there are no pins"),
             Refusal::TooMany => write!(f, "there are more than {MAX_PINS} pins"),
             Refusal::ListFalls { position } => write!(f, "the list falls at position {position}"),
-            Refusal::Short { needed } => write!(f, "the output is shorter than needed: {needed}"),
+            Refusal::Short { needed } => {
+                write!(f, "the output is shorter than the {needed} needed")
+            }
             Refusal::Cut => write!(f, "the strip is cut short"),
             Refusal::Mark => write!(f, "the strip's mark is not PIN"),
             Refusal::Version => write!(f, "the strip's version is not 1"),
-            Refusal::Code { level } => write!(f, "the code of level {level} is none"),
+            Refusal::Code { level } => write!(f, "level {level} has a refused code"),
             Refusal::Fetch { node } => write!(f, "node {node} has no 32-bit value in its part"),
             Refusal::Time { node } => write!(f, "the time of node {node} is not a 32-bit number"),
-            Refusal::Length => write!(f, "the strip's length is not its header's and parts'"),
+            Refusal::Length => write!(f, "the strip's length is not its header and parts"),
             Refusal::Position => write!(f, "the position is not below the pin count"),
         }
     }
@@ -253,7 +255,8 @@ pub fn root_place(n: usize) -> usize {
 /// [`Short`](Refusal::Short).
 #[inline]
 pub fn pack(times: &[u32], out: &mut [u8]) -> Result<usize, Refusal> {
-    // SAFETY: the pointers and lengths are slices', so not null, and only `out` is written.
+    // SAFETY: the pointers and lengths are slices', so not null. Only `out` is written, and it
+    // overlaps nothing.
     let answer =
         unsafe { gemcotton_pack(out.as_mut_ptr(), out.len(), times.as_ptr(), times.len()) };
     let (length, nodes) = answer.outcome(&PACK)?;

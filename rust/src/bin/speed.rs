@@ -9,13 +9,14 @@ use std::fmt::Debug;
 use std::hint::black_box;
 use std::time::Instant;
 
+use gemcotton_tests::lists::rising;
 use gemcotton_tests::random::Random;
+use gemcotton_tests::reference::strip::PINS;
 use gemcotton_tests::reference::tree::levels_of;
 use gemcotton_tests::reference::{kind, Kind};
-use gemcotton_tests::{proved, straightforward};
+use gemcotton_tests::{proved, reference, straightforward};
 
 const COUNT: usize = 32_768;
-const PINS: usize = 65_535;
 const ROUNDS: usize = 1001;
 /// How often one function is run alone.
 const ALONE: usize = 10;
@@ -205,35 +206,55 @@ fn each<'a, Input: Copy, Output: PartialEq + Debug>(
     }
 }
 
+/// The longest list, and positions and targets in it.
+struct Tune {
+    times: Vec<u32>,
+    positions: Vec<usize>,
+    targets: Vec<u32>,
+}
+
+impl Tune {
+    fn new(random: &mut Random) -> Self {
+        // Gaps of 8 on average, small ones the most usual.
+        let times = rising(PINS, || {
+            let part = (1 + random.below(1 << 30)) as f64 / f64::from(1 << 30);
+            (-8.0 * part.ln()).round() as u32
+        });
+        let last = times[PINS - 1] as usize;
+        let mut below = |limit| -> Vec<usize> { (0..300).map(|_| random.below(limit)).collect() };
+        let positions = below(PINS);
+        let targets = below(last + 2).into_iter().map(|t| t as u32).collect();
+        Tune {
+            times,
+            positions,
+            targets,
+        }
+    }
+}
+
 /// Lines for the tree.
-fn report_trees(alone: &Option<(Which, String)>, random: &mut Random) {
-    // Gaps of 8 on average, small ones the most usual.
-    let mut time = 0;
-    let mut next = |_| {
-        let part = (1 + random.below(1 << 30)) as f64 / f64::from(1 << 30);
-        time += (-8.0 * part.ln()).round() as u32;
-        time
-    };
-    let times: Vec<u32> = (0..PINS).map(&mut next).collect();
-    let (s, levels) = levels_of(&times, |_, values| straightforward::choose(values).0);
-    let last = times[PINS - 1] as usize;
-    let mut below = |limit, n| -> Vec<usize> { (0..n).map(|_| random.below(limit)).collect() };
-    let positions = below(PINS, 300);
-    let targets: Vec<u32> = below(last + 2, 300).into_iter().map(|t| t as u32).collect();
-    let counts = below(PINS + 1, 10_000);
-    let nodes: Vec<usize> = below(PINS, 10_000).into_iter().map(|v| v + 1).collect();
+fn report_trees(alone: &Option<(Which, String)>, tune: &Tune, random: &mut Random) {
+    let Tune {
+        times,
+        positions,
+        targets,
+    } = tune;
+    let (s, levels) = levels_of(times, |_, values| straightforward::choose(values).0);
+    let mut below = |limit| -> Vec<usize> { (0..10_000).map(|_| random.below(limit)).collect() };
+    let counts = below(PINS + 1);
+    let nodes: Vec<usize> = below(PINS).into_iter().map(|v| v + 1).collect();
 
     let label = format!("construct, {PINS} times (buffer not cleared)");
-    report(alone, "construct", &label, constructs(&times));
+    report(alone, "construct", &label, constructs(times));
     // What the proved functions require of the levels is asserted here, not at each call.
     let tree = proved::tree::Tree::new(&s, &levels);
     let label = format!("access, {PINS} pins");
     let baseline = |i| straightforward::tree::access(&s, &levels, i);
-    let work = each(&positions, |i| tree.access(i), baseline);
+    let work = each(positions, |i| tree.access(i), baseline);
     report(alone, "access", &label, work);
     let label = format!("search, {PINS} pins");
     let baseline = |t| straightforward::tree::search(&s, &levels, t);
-    let work = each(&targets, |t| tree.search(t), baseline);
+    let work = each(targets, |t| tree.search(t), baseline);
     report(alone, "search", &label, work);
 
     let label = format!("height and root place, up to {PINS} pins");
@@ -249,6 +270,42 @@ fn report_trees(alone: &Option<(Which, String)>, random: &mut Random) {
     report(alone, "rank", &label, each(&nodes, proved, baseline));
 }
 
+/// Both write the same buffer, which is not cleared between calls.
+fn packs<'a>(times: &'a [u32], strip: &[u8]) -> impl FnMut(Which) + 'a {
+    let mut buffer = vec![0; strip.len()];
+    for pack in [proved::strip::pack, straightforward::strip::pack] {
+        buffer.fill(0);
+        assert_eq!(pack(times, &mut buffer), Ok(strip.len()));
+        assert!(buffer == strip);
+    }
+    move |which| {
+        let times = black_box(times);
+        let out = black_box(&mut buffer[..]);
+        black_box(match which {
+            Which::Proved => proved::strip::pack(times, out),
+            Which::Straightforward => straightforward::strip::pack(times, out),
+        })
+        .expect("a list and room");
+    }
+}
+
+/// Lines for the strip.
+fn report_strips(alone: &Option<(Which, String)>, tune: &Tune) {
+    let strip = reference::strip::pack(&tune.times, usize::MAX).expect("a list");
+    let label = format!("pack, {PINS} times (buffer not cleared)");
+    report(alone, "pack", &label, packs(&tune.times, &strip));
+    let label = format!("access in a strip, opened each time, {PINS} pins");
+    let proved = |i| proved::strip::access(&strip, i);
+    let baseline = |i| straightforward::strip::access(&strip, i);
+    let work = each(&tune.positions, proved, baseline);
+    report(alone, "strip-access", &label, work);
+    let label = format!("search in a strip, opened each time, {PINS} pins");
+    let proved = |t| proved::strip::search(&strip, t);
+    let baseline = |t| straightforward::strip::search(&strip, t);
+    let work = each(&tune.targets, proved, baseline);
+    report(alone, "strip-search", &label, work);
+}
+
 fn main() {
     let words: Vec<String> = std::env::args().skip(1).collect();
     let alone = match &words[..] {
@@ -262,5 +319,7 @@ fn main() {
     }
     let mut random = Random(1);
     report_levels(&alone, &mut random);
-    report_trees(&alone, &mut random);
+    let tune = Tune::new(&mut random);
+    report_trees(&alone, &tune, &mut random);
+    report_strips(&alone, &tune);
 }

@@ -1,0 +1,77 @@
+-- Where levels lie that follow each other: their entries, and that they fit the bytes that they fill.
+use mathlib.Core.Path.{_≡_, refl, sym, ap, _∙_}
+use mathlib.Core.List.{List}
+use Prim.Native.Nat.{ℕ, zero, suc, _+_, _-_, _^_, _≤_, _<_}
+use native.Mathlib.Nat.{le-refl}
+use native.Mathlib.Decide.{decLt}
+use native.Mathlib.Numerals.{add-one}
+use native.Mathlib.Omega.{arith}
+use lib.ListN.{length, getD, replicate, set, length-set, length-replicate}
+use lib.Seq.{getD-set-same, getD-set-other}
+use Rattle.tree.specs.Shape.{height}
+use Rattle.tree.specs.Levels.{Fits}
+use Rattle.strip.specs.Layout.{partsStart, endAfter, codesOf, endsOf, laidOut}
+
+pub length-codes : (code : ℕ → ℕ) (d : ℕ) → length (codesOf code d) ≡ 16
+unfolding codesOf
+length-codes code zero = refl
+length-codes code (suc d) = length-set (codesOf code d) d (code d) ∙ length-codes code d
+
+pub length-ends : (start : ℕ) (len : ℕ → ℕ) (d : ℕ) → length (endsOf start len d) ≡ 17
+unfolding endsOf
+length-ends start len zero = refl
+length-ends start len (suc d) = length-set (endsOf start len d) (suc d) (endAfter start len (suc d)) ∙ length-ends start len d
+
+pub getD-codes : (code : ℕ → ℕ) (d i : ℕ) → i < d → d ≤ 16 → getD (codesOf code d) i 0 ≡ code i
+unfolding codesOf
+getD-codes code zero i h k = absurd (omega arith)
+getD-codes code (suc d) i h k = elim (decLt i d) [
+  | yes l ↦ getD-set-other (codesOf code d) d i (code d) 0 (omega arith) ∙ getD-codes code d i l (omega arith)
+  | no n ↦ let e : i ≡ d = omega arith in rw e (getD-set-same (codesOf code d) d (code d) 0 (omega (arith, length-codes code d)))
+]
+
+pub getD-ends : (start : ℕ) (len : ℕ → ℕ) (d i : ℕ) → i ≤ d → d ≤ 16 → getD (endsOf start len d) i 0 ≡ endAfter start len i
+unfolding endsOf endAfter
+getD-ends start len zero i h k = let z : i ≡ 0 = omega arith in rw z
+getD-ends start len (suc d) i h k = elim (decLt i (suc d)) [
+  | yes l ↦ getD-set-other (endsOf start len d) (suc d) i (endAfter start len (suc d)) 0 (omega arith) ∙ getD-ends start len d i (omega arith) (omega arith)
+  | no n ↦
+    let e : i ≡ suc d = omega arith in
+    rw e (getD-set-same (endsOf start len d) (suc d) (endAfter start len (suc d)) 0 (omega (arith, length-ends start len d)))
+]
+
+pub end-next : (start : ℕ) (len : ℕ → ℕ) (d : ℕ) → endAfter start len (suc d) ≡ endAfter start len d + len d
+unfolding endAfter
+end-next start len d = refl
+
+pub end-start : (start : ℕ) (len : ℕ → ℕ) → endAfter start len 0 ≡ start
+unfolding endAfter
+end-start start len = refl
+
+pub end-mono : (start : ℕ) (len : ℕ → ℕ) (d e : ℕ) → d ≤ e → endAfter start len d ≤ endAfter start len e
+unfolding endAfter
+end-mono start len d zero h = let z : d ≡ 0 = omega arith in rw z (le-refl start)
+end-mono start len d (suc e) h = elim (decLt d (suc e)) [
+  | yes l ↦ omega (arith, end-mono start len d e (omega arith))
+  | no n ↦ let q : d ≡ suc e = omega arith in rw q (le-refl (endAfter start len (suc e)))
+]
+
+-- levels of lengths below 2 ^ 32 that end with the bytes fit them
+pub laid-fits : (n : ℕ) (code len : ℕ → ℕ) (s : List ℕ) → height n ≤ 16 → ((d : ℕ) → len d < 2 ^ 32) → endAfter (partsStart n) len (height n) ≡ length s
+    → Fits (laidOut n code len) s
+unfolding laidOut
+laid-fits n code len s h short e = record {
+  height-fits = h;
+  in-order = λ l k. rw (own l k, next l k) (omega (arith, end-next start len l));
+  inside = λ l k. rw (next l k) (omega (arith, end-mono start len (suc l) (height n) k, e));
+  short = λ l k. rw (own l k, next l k) (omega (arith, end-next start len l, short l));
+}
+  where
+    start : ℕ
+    start = partsStart n
+
+    own : (l : ℕ) → l < height n → getD (endsOf start len (height n)) l 0 ≡ endAfter start len l
+    own l k = getD-ends start len (height n) l (omega arith) h
+
+    next : (l : ℕ) → l < height n → getD (endsOf start len (height n)) (l + 1) 0 ≡ endAfter start len (suc l)
+    next l k = rw (add-one l) (getD-ends start len (height n) (suc l) (omega arith) h)

@@ -1,0 +1,5 @@
+-- Laws that belong to no one function, each file about what its name says; Promises proves what specs/Promises states.
+pub mod Falls
+pub mod Layouts
+pub mod Pieces
+pub mod Verdicts

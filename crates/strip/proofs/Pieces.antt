@@ -1,0 +1,42 @@
+-- Bytes written one after the other, and found again.
+use mathlib.Core.Path.{_≡_, refl, sym, ap, _∙_}
+use mathlib.Core.List.{List, [], _∷_, _++_, append-assoc, append-nil}
+use Prim.Native.Nat.{ℕ, zero, suc, _+_, _≤_, _<_}
+use native.Mathlib.Decide.{decLt}
+use native.Mathlib.Omega.{arith}
+use lib.ListN.{length, take, drop, length-append, length-take, length-drop}
+use lib.Seq.{take-at, drop-at, drop-drop, length-take-le}
+use Rattle.strip.specs.Image.{joined, replaced}
+
+-- what d levels have begins what more levels have
+pub joined-split : (bytes : ℕ → List ℕ) (d h : ℕ) → d < h → (later : List ℕ) × (joined bytes h ≡ joined bytes d ++ (bytes d ++ later))
+unfolding joined
+joined-split bytes d zero h = absurd (omega arith)
+joined-split bytes d (suc e) h = elim (decLt d e) [
+  | no n ↦ let q : d ≡ e = omega arith in ([], rw q (ap (λ (l : List ℕ). joined bytes e ++ l) (sym (append-nil (bytes e)))))
+  | yes l ↦
+    let r = joined-split bytes d e l in
+    (r .0 ++ bytes e, ap (λ (l : List ℕ). l ++ bytes e) (r .1) ∙ append-assoc (joined bytes d) (bytes d ++ r .0) (bytes e)
+    ∙ ap (λ (l : List ℕ). joined bytes d ++ l) (append-assoc (bytes d) (r .0) (bytes e)))
+]
+
+pub joined-same : (f g : ℕ → List ℕ) (d : ℕ) → ((i : ℕ) → i < d → f i ≡ g i) → joined f d ≡ joined g d
+unfolding joined
+joined-same f g zero h = refl
+joined-same f g (suc d) h = rw (joined-same f g d (λ i k. h i (omega arith)), h d (omega arith))
+
+pub length-replaced : (out : List ℕ) (a : ℕ) (p : List ℕ) → a + length p ≤ length out → length (replaced out a p) ≡ length out
+length-replaced out a p h =
+    rw (length-append (take a out) (p ++ drop (a + length p) out), length-append p (drop (a + length p) out), length-take a out, length-drop (a + length p) out)
+    (omega arith)
+
+-- further bytes where the first ones end
+pub replaced-more : (out : List ℕ) (a b : ℕ) (p q : List ℕ) → a + length p ≡ b → b ≤ length out → replaced (replaced out a p) b q ≡ replaced out a (p ++ q)
+replaced-more out a b p q e h =
+    let front = take a out ++ p in
+    let whole : replaced out a p ≡ front ++ drop b out = rw e (sym (append-assoc (take a out) p (drop b out))) in
+    let len : length front ≡ b = rw (length-append (take a out) p, length-take-le a out (omega arith)) e in
+    let far : b + length q ≡ a + length (p ++ q) = rw (length-append p q) (omega arith) in
+    rw (whole, take-at front (drop b out) b len, ← (drop-drop (length q) b (front ++ drop b out)), drop-at front (drop b out) b len, drop-drop (length q) b out)
+    (append-assoc (take a out) p (q ++ drop (b + length q) out) ∙ ap (λ (l : List ℕ). take a out ++ l) (sym (append-assoc p q (drop (b + length q) out))
+    ∙ ap (λ (k : ℕ). (p ++ q) ++ drop k out) far))

@@ -1,0 +1,22 @@
+-- Tests one after the other.
+use mathlib.Core.Path.{_≡_, refl}
+use mathlib.Core.Bool.{Bool, true, false}
+use mathlib.Core.List.{List, [], _∷_, _++_}
+use Prim.Native.Nat.{ℕ}
+use Rattle.strip.specs.Outcomes.{Outcome, gives, refuses, Test, test, verdict, after}
+
+module _ {A : Type 0} (r c : ℕ) (ts : List Test) (a : A) where
+  pub verdict-holds : (b : Bool) → b ≡ true → verdict (test b r c ∷ ts) a ≡ refuses r c
+  unfolding verdict
+  verdict-holds b e = rw e
+
+  pub verdict-passes : (b : Bool) → b ≡ false → verdict (test b r c ∷ ts) a ≡ verdict ts a
+  unfolding verdict
+  verdict-passes b e = rw e
+
+-- tests after those that lead to b
+pub verdict-append : {A B : Type 0} (ts us : List Test) (a : A) (b : B) → verdict (ts ++ us) a ≡ after (verdict ts b) (λ _. verdict us a)
+unfolding verdict
+verdict-append [] us a b = refl
+verdict-append (test true r c ∷ ts) us a b = refl
+verdict-append (test false r c ∷ ts) us a b = verdict-append ts us a b

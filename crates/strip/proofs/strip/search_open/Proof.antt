@@ -1,0 +1,34 @@
+-- `search_open` meets its contract.
+use native.Mathlib.Omega.{arith}
+use borrow.Author.Needs.{needs}
+use Rattle.strip.proofs.strip.search_open.Statement.{statement}
+use Rattle.strip.proofs.strip.search_open.Tie as tie
+
+search-requires : tie.Need-search-requires
+search-requires c κs = search needs
+
+enum-known-found : tie.Need-enum-known-found
+enum-known-found c = search needs
+
+enum-known-found-2 : tie.Need-enum-known-found-2
+enum-known-found-2 c = search needs
+
+of-walk-requires : tie.Need-of-walk-requires
+of-walk-requires c κs = search needs
+
+returns : tie.Need-returns
+returns c = ?
+
+returns-2 : tie.Need-returns-2
+returns-2 c = ?
+
+pub search-open-spec : {M : Type 1} → statement M
+search-open-spec =
+    tie.close
+    (tie.spec
+    search-requires
+    enum-known-found
+    enum-known-found-2
+    of-walk-requires
+    returns
+    returns-2)

@@ -1,0 +1,107 @@
+-- 01's marked cases and the examples of its table of refusals, computed: all that concern pack, access, search and up-to.
+use mathlib.Core.Bool.{Bool, true, false, _&&_}
+use mathlib.Core.Path.{_≡_, refl}
+use mathlib.Core.List.{List, [], _∷_, _++_}
+use Prim.Native.Nat.{ℕ}
+use lib.Dec.{eqb}
+use lib.ListN.{length, replicate}
+use Rattle.codes.specs.Bits.{bits, number, sum, fixed, bytesOf, padded}
+use Rattle.codes.specs.Codes.{kindOf, rest, layers, kindBits}
+use Rattle.codes.specs.Choice.{widthIn, widest, bestChunked, chosen}
+use Rattle.codes.specs.Fetch.{fixedAt, fetchLayers, chunkedAt, fetched}
+use Rattle.codes.specs.Marked.{same}
+use Rattle.tree.specs.Shape.{height, rootPlace, childOf, stretchIn, stretch, rank}
+use Rattle.tree.specs.Lists.{ordered}
+use Rattle.tree.specs.Stored.{timeOf, timeAbove, stored, storedFrom}
+use Rattle.tree.specs.Levels.{partOf, fetchedAt}
+use Rattle.tree.specs.Times.{nodeTimeIn, nodeTime}
+use Rattle.tree.specs.Walks.{walkIn, walk, Answer, found, stopped, met, toward, lastOf, accessAnswer, lastLeft, searchAnswer}
+use Rattle.strip.specs.Lists.{firstLower}
+use Rattle.strip.specs.Outcomes.{Outcome, gives, refuses, verdict}
+use Rattle.strip.specs.Layout.{endAfter, codesOf, endsOf, laidOut}
+use Rattle.strip.specs.Image.{codeFor, partFor, joined, stripOf, image}
+use Rattle.strip.specs.Opening.{codeTests, opening}
+use Rattle.strip.specs.Calls.{packAnswer, packOutput, accessOf, searchOf, upToOf}
+
+-- list A with its strip, and strip B, that of the list 0
+abbrev pub listA : List ℕ
+listA = 100 ∷ 250 ∷ 250 ∷ 400 ∷ 1000 ∷ []
+
+abbrev pub a : List ℕ
+a =
+    0x50 ∷ 0x49 ∷ 0x4e ∷ 0x00 ∷ 0x01 ∷ 0x00 ∷ 0x05 ∷ 0x09 ∷ 0x00 ∷ 0x00 ∷ 0x00 ∷ 0x02 ∷ 0x0a ∷ 0x00 ∷ 0x00 ∷ 0x00 ∷ 0x03
+    ∷ 0x42 ∷ 0x00 ∷ 0x00 ∷ 0x00 ∷ 0x02 ∷ 0xc8 ∷ 0x00 ∷ 0x25 ∷ 0xa5 ∷ 0x80 ∷ 0xa2 ∷ 0xd4 ∷ []
+
+abbrev pub b : List ℕ
+b = 0x50 ∷ 0x49 ∷ 0x4e ∷ 0x00 ∷ 0x01 ∷ 0x00 ∷ 0x01 ∷ 0x00 ∷ 0x00 ∷ 0x00 ∷ 0x00 ∷ 0x00 ∷ []
+
+-- a strip of so many pins: its level entries and parts follow the header
+abbrev strip : ℕ → List ℕ → List ℕ
+strip n bytes = 0x50 ∷ 0x49 ∷ 0x4e ∷ 0x00 ∷ 0x01 ∷ 0x00 ∷ n ∷ bytes
+
+-- the root 0, node 2 storing 1
+abbrev low : List ℕ
+low = strip 2 (0x00 ∷ 0x00 ∷ 0x00 ∷ 0x00 ∷ 0x00 ∷ 0x01 ∷ 0x00 ∷ 0x00 ∷ 0x00 ∷ 0x01 ∷ 0x80 ∷ [])
+
+pub data Case : Type 0 where
+  -- the list, the output lent, the answer, and the output after it
+  packs : List ℕ → List ℕ → Outcome ℕ → List ℕ → Case
+  accesses : List ℕ → ℕ → Answer → Case
+  searches : List ℕ → ℕ → Answer → Case
+  counts : List ℕ → ℕ → Answer → Case
+  root : ℕ → ℕ → Case
+
+abbrev pub marked : List Case
+marked =
+    -- 1 and 2, with a byte more than is needed
+    packs listA (replicate 30 7) (gives 29) (a ++ (7 ∷ [])) ∷ packs (0 ∷ []) (replicate 13 7) (gives 12) (b ++ (7 ∷ []))
+    -- 3, 4, 5 and 7
+    ∷ searches a 250 (found 1 3) ∷ searches a 251 (found 3 3) ∷ searches a 1001 (found 5 2) ∷ searches (image (5 ∷ 5 ∷ 5 ∷ [])) 5 (found 0 2)
+    -- 8, and the greatest time
+    ∷ counts a 250 (found 3 3) ∷ counts a 4294967295 (found 5 0)
+    -- 9
+    ∷ root 1 1 ∷ root 2 2 ∷ root 3 2 ∷ root 4 3 ∷ root 5 4 ∷ root 6 4
+    -- list A by access
+    ∷ accesses a 0 (found 100 3) ∷ accesses a 1 (found 250 2) ∷ accesses a 2 (found 250 3) ∷ accesses a 3 (found 400 1) ∷ accesses a 4 (found 1000 2)
+    -- refusals 1, 3 and 4
+    ∷ packs [] (7 ∷ []) (refuses 1 0) (7 ∷ []) ∷ packs (7 ∷ 6 ∷ []) (7 ∷ []) (refuses 3 1) (7 ∷ []) ∷ packs (0 ∷ []) (replicate 11 7) (refuses 4 12) (replicate 11 7)
+    -- 5, 6, 7, 8, 13 and 14
+    ∷ searches (0x50 ∷ 0x49 ∷ 0x4e ∷ []) 0 (stopped 5 0)
+    ∷ searches (0x50 ∷ 0x49 ∷ 0x4f ∷ 0x00 ∷ 0x01 ∷ 0x00 ∷ 0x01 ∷ 0x00 ∷ 0x00 ∷ 0x00 ∷ 0x00 ∷ 0x00 ∷ []) 0 (stopped 6 0)
+    ∷ searches (0x50 ∷ 0x49 ∷ 0x4e ∷ 0x00 ∷ 0x02 ∷ 0x00 ∷ 0x01 ∷ 0x00 ∷ 0x00 ∷ 0x00 ∷ 0x00 ∷ 0x00 ∷ []) 0 (stopped 7 0)
+    ∷ searches (strip 1 (33 ∷ 0x00 ∷ 0x00 ∷ 0x00 ∷ 0x00 ∷ [])) 0 (stopped 8 1)
+    ∷ counts (b ++ (0 ∷ [])) 4294967295 (stopped 13 0)
+    ∷ accesses a 5 (stopped 14 0)
+    -- 9 and 10
+    ∷ accesses (strip 1 (1 ∷ 0x00 ∷ 0x00 ∷ 0x00 ∷ 0x00 ∷ [])) 0 (stopped 9 1) ∷ searches low 0 (stopped 10 2)
+    ∷ []
+
+abbrev given : Outcome ℕ → Outcome ℕ → Bool
+given (gives x) (gives y) = eqb x y
+given (gives x) (refuses r c) = false
+given (refuses r c) (gives y) = false
+given (refuses r c) (refuses q d) = eqb r q && eqb c d
+
+abbrev is : Answer → Answer → Bool
+is (found x k) (found y l) = eqb x y && eqb k l
+is (found x k) (stopped r c) = false
+is (stopped r c) (found y l) = false
+is (stopped r c) (stopped q d) = eqb r q && eqb c d
+
+abbrev passes : Case → Bool
+passes (packs xs out r after) = given (packAnswer xs (length out)) r && same (packOutput xs out) after
+passes (accesses s i r) = is (accessOf s i) r
+passes (searches s t r) = is (searchOf s t) r
+passes (counts s t r) = is (upToOf s t) r
+passes (root n p) = eqb (rootPlace n) p
+
+abbrev all : List Case → Bool
+all [] = true
+all (c ∷ cs) = passes c && all cs
+
+pub marked-pass : all marked ≡ true
+unfolding bits number sum fixed bytesOf padded kindOf rest layers kindBits widthIn widest bestChunked chosen fixedAt fetchLayers chunkedAt fetched height
+    rootPlace childOf stretchIn stretch rank ordered timeOf timeAbove stored storedFrom partOf fetchedAt nodeTimeIn nodeTime walkIn walk met toward lastOf
+    accessAnswer lastLeft searchAnswer firstLower verdict endAfter codesOf endsOf laidOut codeFor partFor joined stripOf codeTests opening packAnswer packOutput
+    accessOf searchOf upToOf
+marked-pass = refl

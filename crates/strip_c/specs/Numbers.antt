@@ -1,0 +1,15 @@
+-- The answers of the calls as three numbers.
+use Prim.Native.Nat.{ℕ}
+use Rattle.tree.specs.Walks as walks
+use Rattle.strip.specs.Outcomes.{Outcome, gives, refuses}
+use Rattle.strip_c.specs.declared.Answer.{Answer}
+
+-- what is given and the nodes opened, or the number of a refusal and what it carries
+abbrev pub ofWalk : walks.Answer → Answer
+ofWalk (walks.found x k) = record { refusal = 0; value = x; nodes = k }
+ofWalk (walks.stopped r c) = record { refusal = r; value = c; nodes = 0 }
+
+-- of a call that opens no nodes
+abbrev pub ofOutcome : Outcome ℕ → Answer
+ofOutcome (gives x) = record { refusal = 0; value = x; nodes = 0 }
+ofOutcome (refuses r c) = record { refusal = r; value = c; nodes = 0 }

@@ -1,0 +1,120 @@
+// The calls on strips for programs in other languages, on numbers and slices. include/gemcotton.h declares them.
+ghost use mathlib.Core.Path.{_≡_};
+ghost use lib.ListN.{length};
+ghost use Rattle.tree.specs.Shape.{height, rootPlace};
+ghost use Rattle.strip.specs.Refusals.{refusalNumber, carried};
+ghost use Rattle.strip.specs.Calls.{packAnswer, packOutput, accessOf, searchOf, searched, upToOf};
+ghost use Rattle.strip_c.specs.Numbers.{ofWalk, ofOutcome};
+use strip::Accessed;
+use strip::Packed;
+use strip::Refusal;
+use strip::Searched;
+use strip::Strip;
+
+// 0, what is given and the nodes opened; or the number of a refusal, what it carries and 0.
+#[repr(C)]
+pub struct Answer {
+    pub refusal: usize,
+    pub value: usize,
+    pub nodes: usize,
+}
+
+fn given(value: usize, nodes: usize) -> Answer
+    ensures { λ r. ⌜ r ≡ record { refusal = 0; value = value; nodes = nodes } ⌝ }
+{
+    Answer {
+        refusal: 0,
+        value: value,
+        nodes: nodes,
+    }
+}
+
+fn numbered(number: usize, carried: usize) -> Answer
+    ensures { λ r. ⌜ r ≡ record { refusal = number; value = carried; nodes = 0 } ⌝ }
+{
+    Answer {
+        refusal: number,
+        value: carried,
+        nodes: 0,
+    }
+}
+
+fn refused(r: Refusal) -> Answer
+    ensures { λ x. ⌜ x ≡ record { refusal = refusalNumber r; value = carried r; nodes = 0 } ⌝ }
+{
+    match r {
+        Refusal::Empty => numbered(1, 0),
+        Refusal::TooMany => numbered(2, 0),
+        Refusal::ListFalls(i) => numbered(3, i),
+        Refusal::Short(needed) => numbered(4, needed),
+        Refusal::Cut => numbered(5, 0),
+        Refusal::Mark => numbered(6, 0),
+        Refusal::Version => numbered(7, 0),
+        Refusal::Code(level) => numbered(8, level),
+        Refusal::Fetch(node) => numbered(9, node),
+        Refusal::Time(node) => numbered(10, node),
+        Refusal::Length => numbered(13, 0),
+        Refusal::Position => numbered(14, 0),
+    }
+}
+
+// The answer of a search or of up-to.
+fn found(r: Searched) -> Answer
+    ensures { λ x. ⌜ x ≡ ofWalk (searched r) ⌝ }
+{
+    match r {
+        Searched::Position(p, nodes) => given(p, nodes),
+        Searched::Refused(r) => refused(r),
+    }
+}
+
+#[no_mangle]
+pub extern "C" fn gemcotton_height(n: usize) -> usize
+    ensures { λ r. ⌜ r ≡ height n ⌝ }
+{
+    Strip::height(n)
+}
+
+#[no_mangle]
+pub extern "C" fn gemcotton_root_place(n: usize) -> usize
+    ensures { λ r. ⌜ r ≡ rootPlace n ⌝ }
+{
+    Strip::root_place(n)
+}
+
+#[no_mangle]
+pub extern "C" fn gemcotton_pack(out: &mut [u8], times: &[u32]) -> Answer
+    ensures { λ r. ⌜ r ≡ ofOutcome (packAnswer (now (times .entry)) (length (now (out .entry)))) ⌝ }
+    ensures { λ r. ⌜ now (out .exit) ≡ packOutput (now (times .entry)) (now (out .entry)) ⌝ }
+{
+    let packed = Strip::pack(out, times);
+    match packed {
+        Packed::Length(n) => given(n, 0),
+        Packed::Refused(r) => refused(r),
+    }
+}
+
+#[no_mangle]
+pub extern "C" fn gemcotton_access(s: &[u8], i: usize) -> Answer
+    ensures { λ r. ⌜ r ≡ ofWalk (accessOf (now (s .entry)) i) ⌝ }
+{
+    let accessed = Strip::access(s, i);
+    match accessed {
+        Accessed::Time(t, nodes) => given(t as usize, nodes),
+        Accessed::Refused(r) => refused(r),
+    }
+}
+
+#[no_mangle]
+pub extern "C" fn gemcotton_search(s: &[u8], target: u32) -> Answer
+    ensures { λ r. ⌜ r ≡ ofWalk (searchOf (now (s .entry)) target) ⌝ }
+{
+    found(Strip::search(s, target))
+}
+
+#[no_mangle]
+pub extern "C" fn gemcotton_up_to(s: &[u8], t: u32) -> Answer
+    ensures { λ r. ⌜ r ≡ ofWalk (upToOf (now (s .entry)) t) ⌝ }
+{
+    found(Strip::up_to(s, t))
+}

@@ -1,0 +1,800 @@
+//! The proved strip calls against the slow reference, answer by answer and byte by byte. The
+//! baseline of the speed comparison goes through the same tests.
+
+use std::fmt::Debug;
+
+use gemcotton_tests::lists::{
+    around_powers, few_lists, few_pins, lists, rising, some_positions, targets, Answers,
+};
+use gemcotton_tests::parts::{any_code, chosen, chunks, part_of_chunks};
+use gemcotton_tests::random::Random;
+use gemcotton_tests::reference::strip as reference;
+use gemcotton_tests::reference::strip::{image, Refusal, PINS};
+use gemcotton_tests::reference::tree::{
+    height, nodes_of_level, parts_of_values, rank, root_place, stored, HEIGHT,
+};
+use gemcotton_tests::tally::Tally;
+use gemcotton_tests::{proved, straightforward};
+
+/// List A and its strip.
+const TIMES_A: [u32; 5] = [100, 250, 250, 400, 1000];
+const A: [u8; 29] = [
+    0x50, 0x49, 0x4E, 0x00, 0x01, 0x00, 0x05, // PIN, version, pins
+    0x09, 0x00, 0x00, 0x00, 0x02, // level 1
+    0x0A, 0x00, 0x00, 0x00, 0x03, // level 2
+    0x42, 0x00, 0x00, 0x00, 0x02, // level 3
+    0xC8, 0x00, 0x25, 0xA5, 0x80, 0xA2, 0xD4, // parts
+];
+
+/// The strip of the list 0.
+const B: [u8; 12] = [0x50, 0x49, 0x4E, 0, 1, 0, 1, 0, 0, 0, 0, 0];
+
+// ---- Comparisons ----
+
+/// An answer with the nodes opened, or a refusal.
+type Found<T> = Result<(T, usize), Refusal>;
+type Call<Input, T> = fn(&[u8], Input) -> Found<T>;
+
+/// One implementation's calls.
+struct Calls {
+    name: &'static str,
+    pack: fn(&[u32], &mut [u8]) -> Result<usize, Refusal>,
+    access: Call<usize, u32>,
+    search: Call<u32, usize>,
+    up_to: Call<u32, usize>,
+}
+
+/// The implementations that must do as the reference does.
+const COMPARED: [Calls; 2] = [
+    Calls {
+        name: "proved",
+        pack: proved::strip::pack,
+        access: proved::strip::access,
+        search: proved::strip::search,
+        up_to: proved::strip::up_to,
+    },
+    Calls {
+        name: "baseline",
+        pack: straightforward::strip::pack,
+        access: straightforward::strip::access,
+        search: straightforward::strip::search,
+        up_to: straightforward::strip::up_to,
+    },
+];
+
+fn refused<T>(number: usize, carried: usize) -> Result<T, Refusal> {
+    Err(Refusal { number, carried })
+}
+
+/// Packs into this much room, with other bytes around it. Nothing but the image may change.
+/// Gives the reference's result, which the others share.
+fn check_pack(times: &[u32], room: usize) -> Result<Vec<u8>, Refusal> {
+    const BEFORE: usize = 5;
+    let expected = reference::pack(times, room);
+    let memory: Vec<u8> = (0..BEFORE + room + 9).map(|i| 0xA5 ^ i as u8).collect();
+    let mut after = memory.clone();
+    if let Ok(image) = &expected {
+        after[BEFORE..BEFORE + image.len()].copy_from_slice(image);
+    }
+    for calls in &COMPARED {
+        let place = || {
+            let (n, front) = (times.len(), &times[..times.len().min(40)]);
+            format!("{}: room {room}, {n} times: {front:?}", calls.name)
+        };
+        let mut memory = memory.clone();
+        let found = (calls.pack)(times, &mut memory[BEFORE..BEFORE + room]);
+        let length = expected.as_ref().map(Vec::len).map_err(|&refusal| refusal);
+        assert_eq!(found, length, "{}", place());
+        assert!(memory == after, "{}", place());
+    }
+    expected
+}
+
+/// More room than a list of n needs.
+fn ample(n: usize) -> usize {
+    4 * n + 120
+}
+
+/// Bytes to read, whether or not they are a strip.
+#[derive(Clone, Copy)]
+struct Strip<'a>(&'a [u8]);
+
+impl Strip<'_> {
+    /// The reference's result, which the others share. So with the other calls.
+    fn access(self, i: usize) -> Found<u32> {
+        let expected = reference::access(self.0, i);
+        self.agree(i, expected, |calls| calls.access);
+        expected
+    }
+
+    fn search(self, t: u32) -> Found<usize> {
+        let expected = reference::search(self.0, t);
+        self.agree(t, expected, |calls| calls.search);
+        expected
+    }
+
+    fn up_to(self, t: u32) -> Found<usize> {
+        let expected = reference::up_to(self.0, t);
+        self.agree(t, expected, |calls| calls.up_to);
+        expected
+    }
+
+    /// Those compared must find what is expected.
+    fn agree<Input: Copy + Debug, T: PartialEq + Debug>(
+        self,
+        input: Input,
+        expected: Found<T>,
+        call: fn(&Calls) -> Call<Input, T>,
+    ) {
+        for calls in &COMPARED {
+            let found = call(calls)(self.0, input);
+            let (name, s) = (calls.name, self.0);
+            assert_eq!(found, expected, "{name}: {input:?} in {s:02X?}");
+        }
+    }
+
+    /// Every call must be refused so.
+    fn check_refused(self, number: usize, carried: usize) {
+        for i in [0, 4, 5, PINS, usize::MAX] {
+            assert_eq!(self.access(i), refused(number, carried), "{:02X?}", self.0);
+        }
+        for t in [0, 250, u32::MAX - 1, u32::MAX] {
+            assert_eq!(self.search(t), refused(number, carried), "{:02X?}", self.0);
+            assert_eq!(self.up_to(t), refused(number, carried), "{:02X?}", self.0);
+        }
+    }
+}
+
+/// Reads the strip of this list, which may be in other codes than pack's: every position and
+/// time of a short list, some of a long one.
+fn check_list(times: &[u32], strip: &[u8], random: &mut Random) {
+    let (n, strip, answers) = (times.len(), Strip(strip), Answers::new(times));
+    let positions: Vec<usize> = match n {
+        0..=300 => (0..n).collect(),
+        _ => (0..100)
+            .map(|_| random.below(n))
+            .chain([0, n - 1])
+            .collect(),
+    };
+    for &i in &positions {
+        strip.agree(i, Ok(answers.access(i)), |calls| calls.access);
+    }
+    for i in [n, n + 1, PINS + 1, usize::MAX] {
+        assert_eq!(strip.access(i), refused(14, 0));
+    }
+    let times: Vec<u32> = positions.iter().map(|&i| times[i]).collect();
+    let targets = targets(&times, random);
+    for &t in &targets {
+        strip.agree(t, Ok(answers.search(t)), |calls| calls.search);
+        strip.agree(t, Ok(answers.up_to(t)), |calls| calls.up_to);
+    }
+    // The reference is slow and sees few of them where the list is not short.
+    for i in some_positions(n, random) {
+        assert_eq!(strip.access(i), Ok(answers.access(i)));
+    }
+    for &t in targets.iter().step_by(1 + targets.len() / 60) {
+        assert_eq!(strip.search(t), Ok(answers.search(t)));
+        assert_eq!(strip.up_to(t), Ok(answers.up_to(t)));
+    }
+}
+
+/// Compares the calls on bytes that need not be a strip, with other bytes on both sides.
+fn check_damaged(strip: &[u8], tally: &mut Tally, random: &mut Random) {
+    let before = random.below(8);
+    let memory = [&random.bytes(before), strip, &random.bytes(8)].concat();
+    let strip = Strip(&memory[before..before + strip.len()]);
+    let n = match strip.0 {
+        [_, _, _, _, _, high, low, ..] => 256 * usize::from(*high) + usize::from(*low),
+        _ => 0,
+    };
+    let mut targets = vec![0, u32::MAX, random.skewed(), random.of_width(32)];
+    for i in some_positions(n, random) {
+        if let Some((time, _)) = tally.add(strip.access(i)) {
+            targets.push(time.saturating_add(random.of_width(1)));
+        }
+    }
+    for i in [n, n + 1, usize::MAX] {
+        tally.add(strip.access(i));
+    }
+    for t in targets {
+        tally.add(strip.search(t));
+        tally.add(strip.up_to(t));
+    }
+}
+
+/// A level's code and part.
+type Level = (u8, Vec<u8>);
+
+/// The levels of lists of all sorts, in the chosen codes and in others.
+fn many_levels(n: usize, random: &mut Random) -> Vec<Vec<Level>> {
+    let mut many = Vec::new();
+    for times in lists(n, random) {
+        let values = stored(&times);
+        many.push(parts_of_values(&values, chosen));
+        many.push(parts_of_values(&values, any_code(random)));
+    }
+    many
+}
+
+// ---- Shape ----
+
+#[test]
+fn height_and_root_place() {
+    assert_eq!(gemcotton::MAX_PINS, PINS);
+    assert_eq!(gemcotton::MAX_HEIGHT, HEIGHT);
+    for n in (0..=5000).chain(around_powers(usize::MAX)) {
+        assert_eq!(gemcotton::height(n), height(n), "{n} pins");
+        assert_eq!(gemcotton::root_place(n), root_place(n), "{n} pins");
+    }
+}
+
+// ---- Pack, and reading whole strips ----
+
+#[test]
+fn short_lists() {
+    let mut random = Random(1);
+    for n in 1..=300 {
+        let count = if n <= 30 { usize::MAX } else { 3 };
+        for times in few_lists(n, count, &mut random) {
+            let strip = check_pack(&times, ample(n)).expect("a list");
+            let length = strip.len();
+            for room in [length, length + 1] {
+                assert_eq!(check_pack(&times, room), Ok(strip.clone()));
+            }
+            for room in [0, 1, random.below(length), length - 1] {
+                assert_eq!(check_pack(&times, room), refused(4, length));
+            }
+            check_list(&times, &strip, &mut random);
+        }
+    }
+}
+
+#[test]
+fn long_lists() {
+    let mut random = Random(2);
+    for n in around_powers(PINS).into_iter().filter(|&n| n > 300) {
+        let count = if n == PINS { usize::MAX } else { 2 };
+        for times in few_lists(n, count, &mut random) {
+            let strip = check_pack(&times, ample(n)).expect("a list");
+            let length = strip.len();
+            match random.below(3) {
+                0 => assert_eq!(check_pack(&times, 0), refused(4, length)),
+                1 => assert_eq!(check_pack(&times, length - 1), refused(4, length)),
+                _ => assert!(check_pack(&times, length) == Ok(strip.clone())),
+            }
+            check_list(&times, &strip, &mut random);
+        }
+    }
+}
+
+#[test]
+fn every_position_of_the_longest_list() {
+    let mut random = Random(3);
+    let times = rising(PINS, || random.skewed() & random.of_width(17));
+    let strip = check_pack(&times, ample(PINS)).expect("a list");
+    let answers = Answers::new(&times);
+    for (i, &t) in times.iter().enumerate() {
+        let strip = Strip(&strip);
+        strip.agree(i, Ok(answers.access(i)), |calls| calls.access);
+        strip.agree(t, Ok(answers.search(t)), |calls| calls.search);
+    }
+}
+
+#[test]
+fn nothing_lent() {
+    // Vectors without entries, which lend a pointer to nothing.
+    let times: Vec<u32> = Vec::new();
+    for calls in &COMPARED {
+        let mut out: Vec<u8> = Vec::new();
+        assert_eq!((calls.pack)(&times, &mut out), refused(1, 0));
+        assert_eq!((calls.pack)(&TIMES_A, &mut out), refused(4, A.len()));
+        assert_eq!((calls.pack)(&[7, 6], &mut out), refused(3, 1));
+    }
+    Strip(&Vec::new()).check_refused(5, 0);
+    for room in [0, 1, 7, 12, 300] {
+        assert_eq!(check_pack(&times, room), refused(1, 0));
+    }
+}
+
+// ---- Lists that are refused ----
+
+#[test]
+fn lists_that_are_too_long() {
+    for n in [PINS + 1, PINS + 2, PINS + 1 + 7, 2 * PINS + 2] {
+        let falling = (0..n as u32).rev().collect();
+        for times in [vec![0; n], (0..n as u32).collect(), falling] {
+            for room in [0, 12, ample(n)] {
+                assert_eq!(check_pack(&times, room), refused(2, 0));
+            }
+        }
+    }
+}
+
+/// Lists of n that fall at i, there alone or later too.
+fn falling(n: usize, i: usize, random: &mut Random) -> [Vec<u32>; 2] {
+    let mut times = rising(n, || 1 + random.of_width(3));
+    // By one, or as far as can be.
+    times[i] = [times[i - 1] - 1, 0][random.below(2)];
+    let mut later = times.clone();
+    later[i + 1..].fill_with(|| random.of_width(6));
+    [times, later]
+}
+
+#[test]
+fn lists_that_fall() {
+    let mut random = Random(4);
+    for n in (2..=40).chain([1000, 32_768, PINS - 1, PINS]) {
+        let mut positions: Vec<usize> = match n {
+            2..=40 => (1..n).collect(),
+            _ => [1, 2, 3, n / 2, n - 2, n - 1].to_vec(),
+        };
+        positions.push(1 + random.below(n - 1));
+        for i in positions {
+            for times in falling(n, i, &mut random) {
+                for room in [0, 20, ample(n)] {
+                    assert_eq!(check_pack(&times, room), refused(3, i));
+                }
+            }
+        }
+    }
+    // By one at the greatest times, where a difference would wrap.
+    assert_eq!(check_pack(&[u32::MAX, u32::MAX - 1], 99), refused(3, 1));
+    assert_eq!(check_pack(&[0, u32::MAX, 0], 99), refused(3, 2));
+}
+
+#[test]
+fn lists_in_any_order() {
+    let mut random = Random(5);
+    let mut tally = Tally::default();
+    for round in 0..20_000 {
+        let n = random.below(9);
+        // Small times, for chords and lists that do not fall.
+        let width = 1 + round % 4;
+        let times: Vec<u32> = (0..n).map(|_| random.of_width(width)).collect();
+        tally.add(check_pack(&times, random.below(60)));
+    }
+    tally.require(&[0, 1, 3, 4], 1000);
+}
+
+// ---- Strips that no list packs to, with its answers ----
+
+#[test]
+fn wasteful_strips() {
+    let mut random = Random(6);
+    for n in 1..=60 {
+        let count = if n <= 20 { usize::MAX } else { 1 };
+        for times in few_lists(n, count, &mut random) {
+            let mut levels = parts_of_values(&stored(&times), any_code(&mut random));
+            check_list(&times, &image(n, &levels), &mut random);
+            // Bytes after the values, which no fetch reads.
+            for (_, part) in &mut levels {
+                let more = random.below(4);
+                part.extend(random.bytes(more));
+            }
+            check_list(&times, &image(n, &levels), &mut random);
+        }
+    }
+}
+
+/// The chunks of some nodes' values, with chunks of zeros on top of some.
+fn with_zeros(values: &[u32], b: u32, random: &mut Random) -> Vec<Vec<u32>> {
+    let mut chains: Vec<Vec<u32>> = values.iter().map(|&v| chunks(v.into(), b)).collect();
+    for chain in &mut chains {
+        let zeros = [0, 0, 1, 33, random.below(100)][random.below(5)];
+        chain.resize(chain.len() + zeros, 0);
+    }
+    chains
+}
+
+#[test]
+fn chunks_made_by_hand() {
+    let mut random = Random(7);
+    let mut tally = Tally::default();
+    for n in few_pins() {
+        for b in 1..=8 {
+            let times = few_lists(n, 1, &mut random).remove(0);
+            let values = stored(&times);
+            let mut levels = parts_of_values(&values, any_code(&mut random));
+            let v = 1 + random.below(n);
+            let level = height(v);
+            let nodes = nodes_of_level(n, level);
+            let index = v - nodes.start();
+            let mut chains = with_zeros(&values[nodes.start() - 1..*nodes.end()], b, &mut random);
+            let mut strip = |chains: &[Vec<u32>]| {
+                levels[level - 1] = (64 + b as u8, part_of_chunks(chains, b));
+                image(n, &levels)
+            };
+            check_list(&times, &strip(&chains), &mut random);
+            // Values around 2^32 and past it.
+            let past = [1 << 32, (1 << 32) + 1, 1 << 33, 1 << 40, 1 << 63];
+            for number in past.into_iter().chain([(1 << 32) - 1]) {
+                chains[index] = chunks(number, b);
+                for zeros in [0, 1, 40] {
+                    chains[index].extend(vec![0; zeros]);
+                    let strip = strip(&chains);
+                    let found = Strip(&strip).access(rank(n, v).expect("v is a node"));
+                    if number >= 1 << 32 {
+                        assert_eq!(found, refused(9, v));
+                    } else if v == 1 {
+                        assert_eq!(found, Ok((u32::MAX, 1)));
+                    }
+                    check_damaged(&strip, &mut tally, &mut random);
+                }
+            }
+        }
+    }
+    tally.require(&[0, 9, 10, 14], 1000);
+}
+
+#[test]
+fn values_of_no_list() {
+    let mut random = Random(8);
+    let mut tally = Tally::default();
+    let ends = [0, 1, 2, (1 << 31) - 1, 1 << 31, u32::MAX - 1, u32::MAX];
+    for n in 1..=70 {
+        for round in 0..12 {
+            let mut values: Vec<u32> = (0..n).map(|_| random.skewed()).collect();
+            match round % 3 {
+                0 => values.fill_with(|| ends[random.below(ends.len())]),
+                1 => values[0] = !values[0],
+                _ => {}
+            }
+            let levels = parts_of_values(&values, any_code(&mut random));
+            check_damaged(&image(n, &levels), &mut tally, &mut random);
+        }
+    }
+    tally.require(&[0, 10, 14], 1000);
+    tally.require_none(9);
+}
+
+#[test]
+fn refusals_at_every_level() {
+    let zeros = parts_of_values(&[0; PINS], |_, _| 1);
+    for level in 1..=HEIGHT {
+        let (first, last) = (1 << (level - 1), (1 << level) - 1);
+        // No part: 9.
+        let mut levels = zeros.clone();
+        levels[level - 1].1.clear();
+        let strip = image(PINS, &levels);
+        assert_eq!(Strip(&strip).access(0), refused(9, first));
+        assert_eq!(Strip(&strip).access(PINS - 1), refused(9, last));
+        assert_eq!(Strip(&strip).search(0), refused(9, first));
+        assert_eq!(Strip(&strip).up_to(0), refused(9, last));
+        assert_eq!(Strip(&strip).up_to(u32::MAX), Ok((PINS, 0)));
+        // The level's first node stores 1 under a time of 0: 10.
+        let mut levels = zeros.clone();
+        levels[level - 1].1[0] = 0x80;
+        let strip = image(PINS, &levels);
+        match level {
+            1 => assert_eq!(Strip(&strip).access(0), Ok((1, HEIGHT))),
+            _ => assert_eq!(Strip(&strip).access(0), refused(10, first)),
+        }
+        // The level's last node stores 1 under the greatest time.
+        let mut levels = zeros.clone();
+        levels[0] = (32, vec![0xFF; 4]);
+        if level > 1 {
+            *levels[level - 1].1.last_mut().expect("a part") |= 1 << (8 - first.min(8));
+            let strip = image(PINS, &levels);
+            assert_eq!(Strip(&strip).access(PINS - 1), refused(10, last));
+        }
+        // No code, at this level and at the later ones: 8.
+        for code in [33, 64, 73, 255] {
+            let mut levels = zeros.clone();
+            for level in &mut levels[level - 1..] {
+                level.0 = code;
+            }
+            Strip(&image(PINS, &levels)).check_refused(8, level);
+        }
+    }
+}
+
+// ---- Damaged strips ----
+
+/// Strips of a few dozen bytes in codes of all sorts.
+fn small_strips(random: &mut Random) -> Vec<Vec<u8>> {
+    let mut strips = vec![A.to_vec(), B.to_vec()];
+    for n in [2, 3, 4, 7, 8, 12] {
+        let low = rising(n, || random.of_width(4));
+        let high: Vec<u32> = low.iter().rev().map(|&time| !time).collect();
+        let chunked = parts_of_values(&stored(&low), |level, _| 65 + (n + level) as u8 % 8);
+        strips.push(image(n, &chunked));
+        strips.push(image(n, &parts_of_values(&stored(&high), chosen)));
+    }
+    strips
+}
+
+#[test]
+fn every_change_of_one_byte() {
+    let mut random = Random(9);
+    let mut tally = Tally::default();
+    for mut strip in small_strips(&mut random) {
+        for place in 0..strip.len() {
+            for change in 1..=255 {
+                strip[place] ^= change;
+                check_damaged(&strip, &mut tally, &mut random);
+                strip[place] ^= change;
+            }
+        }
+    }
+    tally.require(&[0, 5, 6, 7, 8, 9, 10, 13, 14], 1000);
+    tally.require(&[1], 10);
+}
+
+#[test]
+fn every_cut_and_bytes_added() {
+    let mut random = Random(10);
+    for n in few_pins() {
+        for levels in many_levels(n, &mut random) {
+            let mut strip = image(n, &levels);
+            let (length, header) = (strip.len(), 7 + 5 * height(n));
+            for cut in 0..length {
+                let number = if cut < header { 5 } else { 13 };
+                // Where a call read on past the cut, it would find the rest.
+                let cut = Strip(&strip[..cut]);
+                assert_eq!(cut.access(random.below(n + 2)), refused(number, 0));
+                assert_eq!(cut.search(random.skewed()), refused(number, 0));
+                assert_eq!(cut.up_to(!random.skewed()), refused(number, 0));
+            }
+            for more in [1, 1, 2, 7, 255, 256, 1000] {
+                strip.truncate(length);
+                strip.extend(random.dense_bytes(more, 16 * (more % 2)));
+                Strip(&strip).check_refused(13, 0);
+            }
+        }
+    }
+}
+
+#[test]
+fn changed_bytes() {
+    let mut random = Random(11);
+    let mut tally = Tally::default();
+    for n in few_pins() {
+        for levels in many_levels(n, &mut random) {
+            let strip = image(n, &levels);
+            for round in 0..4 {
+                let mut strip = strip.clone();
+                // In half of the rounds the header stays whole, if there are other bytes.
+                let header = (7 + 5 * height(n)).min(strip.len() - 1);
+                let from = round % 2 * header;
+                for _ in 0..=random.below(3) {
+                    let place = from + random.below(strip.len() - from);
+                    strip[place] = random.draw() as u8;
+                }
+                check_damaged(&strip, &mut tally, &mut random);
+            }
+        }
+    }
+    tally.require(&[0, 5, 6, 7, 8, 9, 10, 13, 14], 500);
+}
+
+#[test]
+fn parts_of_random_bytes() {
+    let mut random = Random(12);
+    let mut tally = Tally::default();
+    for n in few_pins() {
+        for levels in many_levels(n, &mut random) {
+            for ones in [1, 3, 8, 13] {
+                let mut levels = levels.clone();
+                // One level, or as often all.
+                let one = random.below(2 * levels.len());
+                let all = one >= levels.len();
+                for (level, (_, part)) in levels.iter_mut().enumerate() {
+                    if all || level == one {
+                        let length = (part.len() + random.below(6)).saturating_sub(2);
+                        *part = random.dense_bytes(length, ones);
+                    }
+                }
+                check_damaged(&image(n, &levels), &mut tally, &mut random);
+            }
+        }
+    }
+    tally.require(&[0, 9, 10, 14], 1000);
+}
+
+#[test]
+fn damage_in_long_lists() {
+    let mut random = Random(13);
+    let mut tally = Tally::default();
+    for n in [1000, 6144, 40_000, PINS] {
+        let times = rising(n, || random.skewed() & random.of_width(14));
+        let levels = parts_of_values(&stored(&times), chosen);
+        for round in 0..12 {
+            let mut levels = levels.clone();
+            let level = random.below(levels.len());
+            let (code, part) = &mut levels[level];
+            match round % 3 {
+                0 => *code = 65 + random.draw() as u8 % 8,
+                1 => part.truncate(random.below(part.len() + 1)),
+                _ => {
+                    for (_, part) in &mut levels[level..] {
+                        for _ in 0..=part.len() / 300 {
+                            let place = random.below(part.len());
+                            part[place] = random.draw() as u8;
+                        }
+                    }
+                }
+            }
+            check_damaged(&image(n, &levels), &mut tally, &mut random);
+        }
+    }
+    tally.require(&[0, 9, 10, 14], 50);
+}
+
+/// Puts another length into a level's entry.
+fn set_length(strip: &mut [u8], level: usize, length: u32) {
+    let place = 7 + 5 * (level - 1) + 1;
+    strip[place..place + 4].copy_from_slice(&length.to_be_bytes());
+}
+
+#[test]
+fn lengths_whose_sum_would_wrap() {
+    let mut random = Random(14);
+    for n in few_pins().chain([1000, 40_000, PINS]).filter(|&n| n > 1) {
+        let times = rising(n, || random.of_width(3));
+        let h = height(n);
+        let strip = image(n, &parts_of_values(&stored(&times), chosen));
+        let parts = (strip.len() - 7 - 5 * h) as u32;
+        for round in 0..40 {
+            let mut strip = strip.clone();
+            // Random lengths, or some just below 2^32, a half or a quarter of it. In 32 bits
+            // the last makes the sum right.
+            let mut sum = 0u32;
+            for level in 1..h {
+                let near = [0, 1 << 30, 1 << 31][random.below(3)];
+                let length = match round % 2 {
+                    0 => random.of_width(32),
+                    _ => u32::wrapping_sub(near, 1 + random.of_width(3)),
+                };
+                set_length(&mut strip, level, length);
+                sum = sum.wrapping_add(length);
+            }
+            set_length(&mut strip, h, parts.wrapping_sub(sum));
+            Strip(&strip).check_refused(13, 0);
+        }
+        let mut greatest = strip.clone();
+        (1..=h).for_each(|level| set_length(&mut greatest, level, u32::MAX));
+        Strip(&greatest).check_refused(13, 0);
+        // As if level 1 had -1 bytes.
+        let mut less = strip.clone();
+        (1..=h).for_each(|level| set_length(&mut less, level, 0));
+        set_length(&mut less, 1, u32::MAX);
+        set_length(&mut less, 2, parts + 1);
+        Strip(&less).check_refused(13, 0);
+    }
+}
+
+#[test]
+fn random_headers() {
+    let mut random = Random(15);
+    let mut tally = Tally::default();
+    let counts = around_powers(PINS);
+    for _ in 0..20_000 {
+        let n = match random.below(4) {
+            0 => random.below(PINS + 1),
+            1 => counts[random.below(counts.len())],
+            _ => random.below(20),
+        };
+        let mut level = |_| {
+            let any = random.draw() as u8;
+            let code = match random.below(60) {
+                0 => any,
+                1..=30 => any % 33,
+                _ => 65 + any % 8,
+            };
+            let length = random.below(9);
+            (code, random.bytes(length))
+        };
+        let levels: Vec<Level> = (0..height(n)).map(&mut level).collect();
+        let mut strip = image(n, &levels);
+        let (length, h) = (strip.len(), levels.len());
+        match random.below(12) {
+            0 => strip[random.below(3)] = random.draw() as u8,
+            1 => strip[3 + random.below(2)] = random.draw() as u8,
+            2 => strip[5 + random.below(2)] = random.draw() as u8,
+            3 => strip.truncate(random.below(length)),
+            4 => strip.push(0),
+            5 if h > 0 => set_length(&mut strip, 1 + random.below(h), random.skewed()),
+            6 => strip.splice(5.., random.bytes(length)).for_each(drop),
+            _ => {}
+        }
+        check_damaged(&strip, &mut tally, &mut random);
+    }
+    tally.require(&[0, 1, 5, 6, 7, 8, 9, 10, 13, 14], 1000);
+}
+
+/// What is done to a strip, and the refusal that it leads to.
+type Fault = (fn(&mut Vec<u8>), usize, usize);
+
+/// Faults of A, those that are tested for later first.
+const FAULTS: [Fault; 9] = [
+    (|strip| strip.push(0), 13, 0),
+    (|strip| strip[8..12].fill(0xFF), 13, 0),
+    (|strip| strip[17] = 73, 8, 3),
+    (|strip| strip[7] = 33, 8, 1),
+    (|strip| strip.truncate(21), 5, 0),
+    (|strip| strip[5..7].fill(0), 1, 0),
+    (|strip| strip[4] = 2, 7, 0),
+    (|strip| strip[2] = 0x4F, 6, 0),
+    (|strip| strip.truncate(6), 5, 0),
+];
+
+#[test]
+fn order_of_refusals_at_opening() {
+    for set in 1..1 << FAULTS.len() {
+        let mut strip = A.to_vec();
+        let mut expected = (0, 0);
+        for (place, (fault, number, carried)) in FAULTS.into_iter().enumerate() {
+            if set >> place & 1 == 1 {
+                fault(&mut strip);
+                expected = (number, carried);
+            }
+        }
+        Strip(&strip).check_refused(expected.0, expected.1);
+    }
+}
+
+// ---- Marked cases and examples ----
+
+/// B with one byte changed.
+fn changed_b(place: usize, byte: u8) -> [u8; 12] {
+    let mut strip = B;
+    strip[place] = byte;
+    strip
+}
+
+#[test]
+fn marked_cases() {
+    // 1 and 2.
+    for room in [29, 30, 300] {
+        assert_eq!(check_pack(&TIMES_A, room), Ok(A.to_vec()));
+    }
+    assert_eq!(check_pack(&[0], 12), Ok(B.to_vec()));
+    // 3, 4, 5 and 8.
+    assert_eq!(Strip(&A).search(250), Ok((1, 3)));
+    assert_eq!(Strip(&A).search(251), Ok((3, 3)));
+    assert_eq!(Strip(&A).search(1001), Ok((5, 2)));
+    assert_eq!(Strip(&A).up_to(250), Ok((3, 3)));
+    // 7.
+    let chord = check_pack(&[5, 5, 5], 99).expect("a list");
+    assert_eq!(Strip(&chord).search(5), Ok((0, 2)));
+    // 9.
+    assert_eq!(
+        [1, 2, 3, 4, 5, 6].map(gemcotton::root_place),
+        [1, 2, 2, 3, 4, 4]
+    );
+    check_list(&TIMES_A, &A, &mut Random(16));
+    check_list(&[0], &B, &mut Random(16));
+}
+
+#[test]
+fn examples_of_refusals() {
+    assert_eq!(check_pack(&[], 300), refused(1, 0));
+    Strip(&changed_b(6, 0)).check_refused(1, 0);
+    assert_eq!(check_pack(&[0; 65_536], ample(65_536)), refused(2, 0));
+    assert_eq!(check_pack(&[7, 6], 99), refused(3, 1));
+    assert_eq!(check_pack(&[0], 11), refused(4, 12));
+    Strip(&[0x50, 0x49, 0x4E]).check_refused(5, 0);
+    Strip(&changed_b(2, 0x4F)).check_refused(6, 0);
+    Strip(&changed_b(4, 2)).check_refused(7, 0);
+    Strip(&changed_b(7, 33)).check_refused(8, 1);
+    // "n = 1, code 1, length 0: 1".
+    let one = changed_b(7, 1);
+    assert_eq!(Strip(&one).access(0), refused(9, 1));
+    assert_eq!(Strip(&one).search(0), refused(9, 1));
+    assert_eq!(Strip(&one).access(1), refused(14, 0));
+    assert_eq!(Strip(&one).up_to(u32::MAX), Ok((1, 0)));
+    // "Root 0, node 2 stores 1: 2".
+    let two = image(2, &parts_of_values(&[0, 1], chosen));
+    assert_eq!(Strip(&two).access(0), refused(10, 2));
+    assert_eq!(Strip(&two).search(0), refused(10, 2));
+    assert_eq!(Strip(&two).up_to(0), Ok((2, 1)));
+    // "A, node 5 storing 151", for 11, which these calls do not look for.
+    let falls = image(5, &parts_of_values(&[400, 150, 600, 150, 151], chosen));
+    assert_eq!(Strip(&falls).access(2), Ok((401, 3)));
+    assert_eq!(Strip(&falls).access(3), Ok((400, 1)));
+    // "N = 1, code 65, length 1, byte 00", for 12, which these calls do not look for.
+    let other = image(1, &[(65, vec![0])]);
+    assert_eq!(Strip(&other).access(0), Ok((0, 1)));
+    Strip(&[&B[..], &[0]].concat()).check_refused(13, 0);
+    assert_eq!(Strip(&A).access(5), refused(14, 0));
+}
