@@ -8,6 +8,7 @@ use native.Mathlib.Numerals.{add-one}
 use native.Mathlib.Omega.{arith}
 use lib.ListN.{length, getD, replicate, set, length-set, length-replicate}
 use lib.Seq.{getD-set-same, getD-set-other}
+use Rattle.tree.specs.declared.nodes.Levels.{Levels}
 use Rattle.tree.specs.Shape.{height}
 use Rattle.tree.specs.Levels.{Fits}
 use Rattle.strip.specs.Layout.{partsStart, endAfter, codesOf, endsOf, laidOut}
@@ -56,15 +57,32 @@ end-mono start len d (suc e) h = elim (decLt d (suc e)) [
   | no n ↦ let q : d ≡ suc e = omega arith in rw q (le-refl (endAfter start len (suc e)))
 ]
 
+-- the first d levels entered
+abbrev pub entered : ℕ → (ℕ → ℕ) → (ℕ → ℕ) → ℕ → Levels
+entered n code len d = record { pins = n; codes = codesOf code d; ends = endsOf (partsStart n) len d }
+
+pub entered-none : (n : ℕ) (code len : ℕ → ℕ) → record { pins = n; codes = replicate 16 0; ends = set (replicate 17 0) 0 (partsStart n) } ≡ entered n code len 0
+unfolding codesOf endsOf
+entered-none n code len = refl
+
+pub entered-next : (n : ℕ) (code len : ℕ → ℕ) (d c e : ℕ) → c ≡ code d → e ≡ endAfter (partsStart n) len (suc d)
+    → record { pins = n; codes = set (codesOf code d) d c; ends = set (endsOf (partsStart n) len d) (d + 1) e } ≡ entered n code len (d + 1)
+unfolding codesOf endsOf
+entered-next n code len d c e p q = rw (p, q, add-one d)
+
+pub entered-all : (n : ℕ) (code len : ℕ → ℕ) → entered n code len (height n) ≡ laidOut n code len
+unfolding laidOut
+entered-all n code len = refl
+
 -- levels of lengths below 2 ^ 32 that end with the bytes fit them
-pub laid-fits : (n : ℕ) (code len : ℕ → ℕ) (s : List ℕ) → height n ≤ 16 → ((d : ℕ) → len d < 2 ^ 32) → endAfter (partsStart n) len (height n) ≡ length s
+pub laid-fits : (n : ℕ) (code len : ℕ → ℕ) (s : List ℕ) → height n ≤ 16 → ((d : ℕ) → d < height n → len d < 2 ^ 32) → endAfter (partsStart n) len (height n) ≡ length s
     → Fits (laidOut n code len) s
 unfolding laidOut
 laid-fits n code len s h short e = record {
   height-fits = h;
   in-order = λ l k. rw (own l k, next l k) (omega (arith, end-next start len l));
   inside = λ l k. rw (next l k) (omega (arith, end-mono start len (suc l) (height n) k, e));
-  short = λ l k. rw (own l k, next l k) (omega (arith, end-next start len l, short l));
+  short = λ l k. rw (own l k, next l k) (omega (arith, end-next start len l, short l k));
 }
   where
     start : ℕ

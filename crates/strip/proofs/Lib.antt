@@ -1,5 +1,6 @@
 -- Laws that belong to no one function, each file about what its name says; Promises proves what specs/Promises states.
 pub mod Falls
 pub mod Layouts
+pub mod Openings
 pub mod Pieces
 pub mod Verdicts

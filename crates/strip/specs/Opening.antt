@@ -1,7 +1,8 @@
 -- Opening, done first by every reading call.
+use mathlib.Core.Path.{_≡_}
 use mathlib.Core.Bool.{Bool, true, false, not, _&&_}
 use mathlib.Core.List.{List, [], _∷_, _++_}
-use Prim.Native.Nat.{ℕ, zero, suc}
+use Prim.Native.Nat.{ℕ, zero, suc, _^_, _≤_, _<_}
 use lib.Dec.{eqb, ltb}
 use lib.ListN.{length, getD}
 use Rattle.codes.specs.declared.kinds.Kind.{Kind}
@@ -9,6 +10,7 @@ use Rattle.codes.specs.declared.kinds.Kind.the-variants.{Fixed, Chunked, Refuse
 use Rattle.codes.specs.Codes.{kindOf}
 use Rattle.tree.specs.declared.nodes.Levels.{Levels}
 use Rattle.tree.specs.Shape.{height}
+use Rattle.tree.specs.Levels.{Fits}
 use Rattle.strip.specs.declared.opening.Status.{Status}
 use Rattle.strip.specs.declared.opening.Status.the-variants as status
 use Rattle.strip.specs.declared.opening.Frame.{Frame}
@@ -41,9 +43,12 @@ unfoldable pub codeTests : List ℕ → ℕ → ℕ → List Test
 codeTests s zero d = []
 codeTests s (suc k) d = test (isRefused (kindOf (codeAt s d))) 8 (suc d) ∷ codeTests s k (suc d)
 
--- the length is 7 + 5h and the parts'
+-- 7 + 5h and the parts' lengths
+abbrev pub toldLength : List ℕ → ℕ
+toldLength s = endAfter (partsStart (pinsOf s)) (lengthAt s) (height (pinsOf s))
+
 abbrev pub lengthTest : List ℕ → Test
-lengthTest s = test (not (eqb (endAfter (partsStart (pinsOf s)) (lengthAt s) (height (pinsOf s))) (length s))) 13 0
+lengthTest s = test (not (eqb (toldLength s) (length s))) 13 0
 
 -- 8 from level 1 on, 13
 abbrev pub levelTests : List ℕ → List Test
@@ -65,6 +70,16 @@ statusOf (status.Refused r) a = refuses (refusalNumber r) (carried r)
 abbrev pub opened : Opening → Outcome Levels
 opened r = statusOf (r .status) (r .levels)
 
+-- the levels of a strip that is open fit its bytes
+abbrev pub FitsOpen : Status → Levels → List ℕ → Type 0
+FitsOpen status.Open levels s = Fits levels s
+FitsOpen (status.Refused r) levels s = Unit {0}
+
 abbrev pub framed : Frame → Outcome ℕ
 framed (frame.Pins n) = gives n
 framed (frame.Refused r) = refuses (refusalNumber r) (carried r)
+
+-- the pin count of a header that lies whole in the strip
+abbrev pub Headed : Frame → List ℕ → Type 0
+Headed (frame.Pins n) s = (n ≡ pinsOf s) × (n < 2 ^ 16) × (partsStart n ≤ length s)
+Headed (frame.Refused r) s = Unit {0}

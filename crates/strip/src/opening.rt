@@ -7,11 +7,11 @@ use tree::Levels;
 ghost use mathlib.Core.Path.{_≡_};
 ghost use Prim.Native.Nat.{_+_, _*_, _^_, _<_, _≤_};
 ghost use lib.ListN.{length};
+ghost use Rattle.codes.specs.Codes.{kindOf};
 ghost use Rattle.tree.specs.Shape.{height};
-ghost use Rattle.tree.specs.Levels.{Fits};
 ghost use Rattle.strip.specs.Layout.{pinsOf};
-ghost use Rattle.strip.specs.Outcomes.{gives, verdict};
-ghost use Rattle.strip.specs.Opening.{headerTests, levelTests, levelsIn, opening, opened, framed};
+ghost use Rattle.strip.specs.Outcomes.{verdict};
+ghost use Rattle.strip.specs.Opening.{headerTests, isRefused, levelTests, levelsIn, opening, opened, FitsOpen, framed, Headed};
 
 // Whether a strip is open.
 pub(crate) enum Status {
@@ -34,6 +34,7 @@ enum Frame {
 // The tests up to the header's length.
 fn frame_of(s: &[u8]) -> Frame
     ensures { λ r. ⌜ framed r ≡ verdict (headerTests (now (s .entry))) (pinsOf (now (s .entry))) ⌝ }
+    ensures { λ r. ⌜ Headed r (now (s .entry)) ⌝ }
 {
     if s.len() < 7 {
         return Frame::Refused(Refusal::Cut);
@@ -60,11 +61,23 @@ fn frame_of(s: &[u8]) -> Frame
     Frame::Pins(n)
 }
 
+// Whether a byte is no level code.
+fn is_refused(code: u8) -> bool
+    ensures { λ r. ⌜ r ≡ isRefused (kindOf code) ⌝ }
+{
+    let kind = codes::kind_of(code);
+    match kind {
+        Kind::Fixed(_) => false,
+        Kind::Chunked(_) => false,
+        Kind::Refused => true,
+    }
+}
+
 // The tests of the level codes and of the length, for the n pins of a header that lies whole in the strip.
 fn levels_of(s: &[u8], n: usize) -> Opening
     requires { ⌜ (n ≡ pinsOf (now s)) × (n < 2 ^ 16) × (7 + 5 * height n ≤ length (now s)) ⌝ }
     ensures { λ r. ⌜ opened r ≡ verdict (levelTests (now (s .entry))) (levelsIn (now (s .entry))) ⌝ }
-    ensures { λ r. ⌜ (opened r ≡ gives (r .levels) → Fits (r .levels) (now (s .entry))) ⌝ }
+    ensures { λ r. ⌜ FitsOpen (r .status) (r .levels) (now (s .entry)) ⌝ }
 {
     let h = tree::height(n);
     let mut end = 7 + 5 * h;
@@ -77,8 +90,7 @@ fn levels_of(s: &[u8], n: usize) -> Opening
     let mut d: usize = 0;
     while d < h {
         let code = s[7 + 5 * d];
-        let kind = codes::kind_of(code);
-        if let Kind::Refused = kind {
+        if is_refused(code) {
             return Opening {
                 status: Status::Refused(Refusal::Code(d + 1)),
                 levels: levels,
@@ -104,7 +116,7 @@ fn levels_of(s: &[u8], n: usize) -> Opening
 // Opens a strip.
 pub(crate) fn opening_of(s: &[u8]) -> Opening
     ensures { λ r. ⌜ opened r ≡ opening (now (s .entry)) ⌝ }
-    ensures { λ r. ⌜ (opened r ≡ gives (r .levels) → Fits (r .levels) (now (s .entry))) ⌝ }
+    ensures { λ r. ⌜ FitsOpen (r .status) (r .levels) (now (s .entry)) ⌝ }
 {
     let frame = frame_of(s);
     match frame {

@@ -1,28 +1,54 @@
 -- `levels_of` meets its contract.
 use native.Mathlib.Omega.{arith}
+use mathlib.Core.Path.{_≡_, refl, sym, ap, _∙_}
+use mathlib.Core.List.{List, [], _∷_, _++_}
+use Prim.Native.Nat.{ℕ, suc, _+_, _-_, _*_, _^_, _≤_, _<_}
+use native.Mathlib.Nat.{sub-zero}
+use native.Mathlib.Decide.{decLt}
+use Rattle.tree.specs.Shape.{height}
+use Rattle.tree.proofs.Promises.{height-least}
+use Rattle.strip.specs.Outcomes.{verdict}
+use Rattle.strip.specs.Layout.{pinsOf, codeAt, lengthAt, partsStart, endAfter, laidOut}
+use Rattle.strip.specs.Opening.{codeTests, toldLength, lengthTest, levelTests, levelsIn}
+use Rattle.strip.proofs.Layouts.{entered, entered-none, entered-next, entered-all, end-start, end-next, laid-fits}
+use Rattle.strip.proofs.Openings.{codes-end, codes-refused, codes-pass, length-differs, length-agrees}
 use Rattle.strip.proofs.opening.levels_of.Statement.{statement}
 use Rattle.strip.proofs.opening.levels_of.Tie as tie
 
 abbrev Inv-loop : tie.InvT-loop
-Inv-loop s n h end₀ levels₀ d₀ end levels d = ?
+Inv-loop s n h end₀ levels₀ d₀ end levels d =
+    (h ≤ 16) × (d ≤ h) × (end ≤ 87 + d * 2 ^ 32) × (end ≡ endAfter (partsStart n) (lengthAt s) d) × (levels ≡ entered n (codeAt s) (lengthAt s) d)
+    × ((k : ℕ) → k < d → lengthAt s k < 2 ^ 32)
+    × (verdict (levelTests s) (levelsIn s) ≡ verdict (codeTests s (h - d) d ++ (lengthTest s ∷ [])) (levelsIn s))
 
 abbrev μ-loop : tie.MeasureT-loop
-μ-loop s n h end₀ levels₀ d₀ end levels d = ?
+μ-loop s n h end₀ levels₀ d₀ end levels d = h - d
 
 height-requires : tie.Need-height-requires Inv-loop μ-loop
 height-requires c κs = omega arith
 
 mul-end : tie.Need-mul-end Inv-loop μ-loop
-mul-end c = omega arith
+mul-end c = omega (arith, height-least .least (c .before .before .args .n) 16 (omega arith))
 
 add-end : tie.Need-add-end Inv-loop μ-loop
-add-end c = omega arith
+add-end c = omega (arith, height-least .least (c .before .before .args .n) 16 (omega arith))
 
 element-write-levels : tie.Need-element-write-levels Inv-loop μ-loop
 element-write-levels c = omega arith
 
 loop-holds : tie.Need-loop-holds Inv-loop μ-loop
-loop-holds c = ?
+loop-holds c =
+    let n = c .before .before .args .n in
+    let s = c .before .before .args .s .now in
+    let tall = height-least .least n 16 (omega arith) in (
+      omega arith,
+      omega arith,
+      omega arith,
+      rw (c .height .ensures) (sym (end-start (partsStart n) (lengthAt s))),
+      rw (c .height .ensures) (entered-none n (codeAt s) (lengthAt s)),
+      λ k l. absurd (omega arith),
+      rw (sub-zero (c .height .result), c .height .ensures, c .before .before .pre .0),
+    )
 
 mul-code : tie.Need-mul-code Inv-loop μ-loop
 mul-code c = omega arith
@@ -33,17 +59,18 @@ add-code c = omega arith
 shared-slice-read-code : tie.Need-shared-slice-read-code Inv-loop μ-loop
 shared-slice-read-code c = omega arith
 
-kind-of-requires : tie.Need-kind-of-requires Inv-loop μ-loop
-kind-of-requires c κs = omega arith
-
-enum-told : tie.Need-enum-told Inv-loop μ-loop
-enum-told c = omega arith
+is-refused-requires : tie.Need-is-refused-requires Inv-loop μ-loop
+is-refused-requires c κs = omega arith
 
 add-t19 : tie.Need-add-t19 Inv-loop μ-loop
 add-t19 c = omega arith
 
 returns : tie.Need-returns Inv-loop μ-loop
-returns c = ?
+returns c =
+    let l = c .before .before .before .before .loop in
+    let s = c .before .before .before .before .before .before .before .args .s .now in
+    let e = codes-refused s (lengthTest s ∷ []) (levelsIn s) (c .before .before .before .before .before .height .result) (l .d) (omega arith) (sym (c .before .is-refused .ensures) ∙ c .if1 .taken) in
+    (sym (l .inv .6 ∙ e), tt)
 
 mul-four-at : tie.Need-mul-four-at Inv-loop μ-loop
 mul-four-at c = omega arith
@@ -73,16 +100,55 @@ add-d : tie.Need-add-d Inv-loop μ-loop
 add-d c = omega arith
 
 loop-less : tie.Need-loop-less Inv-loop μ-loop
-loop-less c = ?
+loop-less c = omega arith
 
 loop-again : tie.Need-loop-again Inv-loop μ-loop
-loop-again c = ?
+loop-again c =
+    let l = c .before .before .before .before .before .loop in
+    let n = c .before .before .before .before .before .before .before .before .args .n in
+    let s = c .before .before .before .before .before .before .before .before .args .s .now in
+    let d = l .d in
+    let start = partsStart n in
+    let next : d + 1 ≡ suc d = omega arith in
+    let e : l .end + c .four-at .result ≡ endAfter start (lengthAt s) (suc d) =
+    rw (c .four-at .ensures .0, l .inv .3) (sym (end-next start (lengthAt s) d)) in
+    let t = codes-pass s (lengthTest s ∷ []) (levelsIn s) (c .before .before .before .before .before .before .height .result) d (omega arith) (sym (c .before .before .is-refused .ensures) ∙ c .before .if1 .left) in (
+      l .inv .0,
+      omega arith,
+      omega arith,
+      rw next e,
+      rw (l .inv .4) (entered-next n (codeAt s) (lengthAt s) d (codeAt s d) (l .end + c .four-at .result) refl e),
+      short s d (c .four-at .result) (c .four-at .ensures .0) (c .four-at .ensures .1) (l .inv .5),
+      l .inv .6 ∙ t,
+    )
+  where
+    short : (s : List ℕ) (d r : ℕ) → r ≡ lengthAt s d → r < 2 ^ 32 → ((k : ℕ) → k < d → lengthAt s k < 2 ^ 32) → (k : ℕ) → k < d + 1 → lengthAt s k < 2 ^ 32
+    short s d r e b f k l = elim (decLt k d) [ yes m ↦ f k m | no m ↦ (let q : k ≡ d = omega arith in rw (q, ← e) b) ]
+
+-- after all levels
+at-end : (s : List ℕ) (n h d end : ℕ) → n ≡ pinsOf s → h ≡ height n → d ≡ h → end ≡ endAfter (partsStart n) (lengthAt s) d → end ≡ toldLength s
+at-end s n h d end p q r e = rw (r, q, p) at e
 
 returns-2 : tie.Need-returns-2 Inv-loop μ-loop
-returns-2 c = ?
+returns-2 c =
+    let l = c .before .before .loop in
+    let s = c .before .before .before .before .before .args .s .now in
+    let e = at-end s (c .before .before .before .before .before .args .n) (c .before .before .before .height .result) (l .d) (l .end) (c .before .before .before .before .before .pre .0) (c .before .before .before .height .ensures) (omega arith) (l .inv .3) in
+    let t = codes-end s (lengthTest s ∷ []) (levelsIn s) (c .before .before .before .height .result - l .d) (l .d) (omega arith) in
+    (sym (l .inv .6 ∙ t ∙ length-differs s (levelsIn s) (λ q. omega (arith, e))), tt)
 
 returns-3 : tie.Need-returns-3 Inv-loop μ-loop
-returns-3 c = ?
+returns-3 c =
+    let l = c .before .before .loop in
+    let n = c .before .before .before .before .before .args .n in
+    let s = c .before .before .before .before .before .args .s .now in
+    let h = c .before .before .before .height .result in
+    let e = at-end s n h (l .d) (l .end) (c .before .before .before .before .before .pre .0) (c .before .before .before .height .ensures) (omega arith) (l .inv .3) in
+    let t = codes-end s (lengthTest s ∷ []) (levelsIn s) (h - l .d) (l .d) (omega arith) in
+    let all : l .levels ≡ laidOut n (codeAt s) (lengthAt s) =
+    l .inv .4 ∙ ap (entered n (codeAt s) (lengthAt s)) (omega (arith, c .before .before .before .height .ensures)) ∙ entered-all n (codeAt s) (lengthAt s) in
+    (rw (all, c .before .before .before .before .before .pre .0) (sym (l .inv .6 ∙ t ∙ length-agrees s (levelsIn s) (omega (arith, e)))),
+    rw all (laid-fits n (codeAt s) (lengthAt s) s (omega arith) (λ k m. l .inv .5 k (omega arith)) (rw (c .before .before .before .before .before .pre .0) (omega (arith, e)))))
 
 pub levels-of-spec : {M : Type 1} → statement M
 levels-of-spec =
@@ -98,8 +164,7 @@ levels-of-spec =
     mul-code
     add-code
     shared-slice-read-code
-    kind-of-requires
-    enum-told
+    is-refused-requires
     add-t19
     returns
     mul-four-at

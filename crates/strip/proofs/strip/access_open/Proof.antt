@@ -1,11 +1,14 @@
 -- `access_open` meets its contract.
 use native.Mathlib.Omega.{arith}
+use mathlib.Core.Path.{sym, ap, _∙_}
+use borrow.Author.Tests.{lt-ltb, le-ltb}
+use Rattle.tree.specs.Walks.{accessed}
 use borrow.Author.Needs.{needs}
 use Rattle.strip.proofs.strip.access_open.Statement.{statement}
 use Rattle.strip.proofs.strip.access_open.Tie as tie
 
 returns : tie.Need-returns
-returns c = ?
+returns c = sym (rw (le-ltb (c .before .before .before .args .i) (c .before .before .before .args .levels .pins) (omega arith)))
 
 access-requires : tie.Need-access-requires
 access-requires c κs = search needs
@@ -20,10 +23,15 @@ of-walk-requires : tie.Need-of-walk-requires
 of-walk-requires c κs = search needs
 
 returns-2 : tie.Need-returns-2
-returns-2 c = ?
+returns-2 c =
+    let a = c .before .before .before .before .before .before .before .args in
+    rw (lt-ltb (a .i) (a .levels .pins) (omega arith)) (sym (ap accessed (c .before .found .given .1)) ∙ c .before .before .before .access .ensures)
 
 returns-3 : tie.Need-returns-3
-returns-3 c = ?
+returns-3 c =
+    let a = c .before .before .before .before .before .before .before .before .args in
+    rw (lt-ltb (a .i) (a .levels .pins) (omega arith), c .of-walk .ensures .0, c .of-walk .ensures .1)
+    (sym (ap accessed (c .before .before .found2 .given .1)) ∙ c .before .before .before .before .access .ensures)
 
 pub access-open-spec : {M : Type 1} → statement M
 access-open-spec =

@@ -1,5 +1,7 @@
 -- `search_open` meets its contract.
 use native.Mathlib.Omega.{arith}
+use mathlib.Core.Path.{sym, ap, _∙_}
+use Rattle.tree.specs.Walks.{searched}
 use borrow.Author.Needs.{needs}
 use Rattle.strip.proofs.strip.search_open.Statement.{statement}
 use Rattle.strip.proofs.strip.search_open.Tie as tie
@@ -17,10 +19,11 @@ of-walk-requires : tie.Need-of-walk-requires
 of-walk-requires c κs = search needs
 
 returns : tie.Need-returns
-returns c = ?
+returns c = sym (ap searched (c .before .found .given .1)) ∙ c .before .before .before .search .ensures
 
 returns-2 : tie.Need-returns-2
-returns-2 c = ?
+returns-2 c =
+    rw (c .of-walk .ensures .0, c .of-walk .ensures .1) (sym (ap searched (c .before .before .found2 .given .1)) ∙ c .before .before .before .before .search .ensures)
 
 pub search-open-spec : {M : Type 1} → statement M
 search-open-spec =
