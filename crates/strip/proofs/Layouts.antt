@@ -74,22 +74,35 @@ pub entered-all : (n : ℕ) (code len : ℕ → ℕ) → entered n code len (hei
 unfolding laidOut
 entered-all n code len = refl
 
--- levels of lengths below 2 ^ 32 that end with the bytes fit them
-pub laid-fits : (n : ℕ) (code len : ℕ → ℕ) (s : List ℕ) → height n ≤ 16 → ((d : ℕ) → d < height n → len d < 2 ^ 32) → endAfter (partsStart n) len (height n) ≡ length s
-    → Fits (laidOut n code len) s
-unfolding laidOut
-laid-fits n code len s h short e = record {
-  height-fits = h;
-  in-order = λ l k. rw (own l k, next l k) (omega (arith, end-next start len l));
-  inside = λ l k. rw (next l k) (omega (arith, end-mono start len (suc l) (height n) k, e));
-  short = λ l k. rw (own l k, next l k) (omega (arith, end-next start len l, short l k));
-}
-  where
-    start : ℕ
-    start = partsStart n
+-- the entries of a level
+pub record At (levels : Levels) (d code start len : ℕ) : Type 0 where
+  pub code-is : getD (levels .codes) d 0 ≡ code
+  pub starts : getD (levels .ends) d 0 ≡ start
+  pub ends-at : getD (levels .ends) (d + 1) 0 ≡ start + len
 
-    own : (l : ℕ) → l < height n → getD (endsOf start len (height n)) l 0 ≡ endAfter start len l
-    own l k = getD-ends start len (height n) l (omega arith) h
+module _ (n : ℕ) (code len : ℕ → ℕ) where
+  pub laid-pins : laidOut n code len .pins ≡ n
+  unfolding laidOut
+  laid-pins = refl
 
-    next : (l : ℕ) → l < height n → getD (endsOf start len (height n)) (l + 1) 0 ≡ endAfter start len (suc l)
-    next l k = rw (add-one l) (getD-ends start len (height n) (suc l) (omega arith) h)
+  module _ (tall : height n ≤ 16) where
+    pub laid-end : (d : ℕ) → d ≤ height n → getD (laidOut n code len .ends) d 0 ≡ endAfter (partsStart n) len d
+    unfolding laidOut
+    laid-end d h = getD-ends (partsStart n) len (height n) d h tall
+
+    pub laid-at : (d : ℕ) → d < height n → At (laidOut n code len) d (code d) (endAfter (partsStart n) len d) (len d)
+    unfolding laidOut
+    laid-at d h = record {
+      code-is = getD-codes code (height n) d h tall;
+      starts = laid-end d (omega arith);
+      ends-at = rw (add-one d) (laid-end (suc d) (omega arith) ∙ end-next (partsStart n) len d);
+    }
+
+    -- levels of lengths below 2 ^ 32 that end with the bytes fit them
+    pub laid-fits : (s : List ℕ) → ((d : ℕ) → d < height n → len d < 2 ^ 32) → endAfter (partsStart n) len (height n) ≡ length s → Fits (laidOut n code len) s
+    laid-fits s short e = record {
+      height-fits = rw laid-pins tall;
+      in-order = λ d h. let k = laid-at d (rw laid-pins at h) in omega (arith, k .starts, k .ends-at);
+      inside = λ d h. let m = rw laid-pins at h in let k = laid-at d m in omega (arith, k .ends-at, end-next (partsStart n) len d, end-mono (partsStart n) len (suc d) (height n) m, e);
+      short = λ d h. let m = rw laid-pins at h in let k = laid-at d m in omega (arith, k .starts, k .ends-at, short d m);
+    }

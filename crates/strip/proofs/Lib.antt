@@ -3,4 +3,5 @@ pub mod Falls
 pub mod Layouts
 pub mod Openings
 pub mod Pieces
+pub mod Plans
 pub mod Verdicts

@@ -1,12 +1,15 @@
 -- Bytes written one after the other, and found again.
 use mathlib.Core.Path.{_≡_, refl, sym, ap, _∙_}
 use mathlib.Core.List.{List, [], _∷_, _++_, append-assoc, append-nil}
-use Prim.Native.Nat.{ℕ, zero, suc, _+_, _≤_, _<_}
+use Prim.Native.Nat.{ℕ, zero, suc, _+_, _*_, _≤_, _<_}
+use native.Mathlib.Nat.{add-zero}
 use native.Mathlib.Decide.{decLt}
 use native.Mathlib.Omega.{arith}
-use lib.ListN.{length, take, drop, length-append, length-take, length-drop}
-use lib.Seq.{take-at, drop-at, drop-drop, length-take-le}
-use Rattle.strip.specs.Image.{joined, replaced}
+use lib.ListN.{length, take, drop, length-append, length-take, length-drop, take-append-drop}
+use lib.Seq.{take-at, drop-at, drop-drop, length-take-le, sets, sets-eq}
+use Rattle.tree.specs.declared.nodes.Levels.{Levels}
+use Rattle.strip.specs.Image.{joined}
+use Rattle.strip.specs.Written.{replaced, entryIn}
 
 -- what d levels have begins what more levels have
 pub joined-split : (bytes : ℕ → List ℕ) (d h : ℕ) → d < h → (later : List ℕ) × (joined bytes h ≡ joined bytes d ++ (bytes d ++ later))
@@ -27,16 +30,33 @@ joined-same f g (suc d) h = rw (joined-same f g d (λ i k. h i (omega arith)), h
 
 pub length-replaced : (out : List ℕ) (a : ℕ) (p : List ℕ) → a + length p ≤ length out → length (replaced out a p) ≡ length out
 length-replaced out a p h =
-    rw (length-append (take a out) (p ++ drop (a + length p) out), length-append p (drop (a + length p) out), length-take a out, length-drop (a + length p) out)
-    (omega arith)
+    rw (length-append (take a out ++ p) (drop (a + length p) out), length-append (take a out) p, length-take a out, length-drop (a + length p) out) (omega arith)
 
 -- further bytes where the first ones end
 pub replaced-more : (out : List ℕ) (a b : ℕ) (p q : List ℕ) → a + length p ≡ b → b ≤ length out → replaced (replaced out a p) b q ≡ replaced out a (p ++ q)
 replaced-more out a b p q e h =
     let front = take a out ++ p in
-    let whole : replaced out a p ≡ front ++ drop b out = rw e (sym (append-assoc (take a out) p (drop b out))) in
+    let whole : replaced out a p ≡ front ++ drop b out = rw e in
     let len : length front ≡ b = rw (length-append (take a out) p, length-take-le a out (omega arith)) e in
     let far : b + length q ≡ a + length (p ++ q) = rw (length-append p q) (omega arith) in
-    rw (whole, take-at front (drop b out) b len, ← (drop-drop (length q) b (front ++ drop b out)), drop-at front (drop b out) b len, drop-drop (length q) b out)
-    (append-assoc (take a out) p (q ++ drop (b + length q) out) ∙ ap (λ (l : List ℕ). take a out ++ l) (sym (append-assoc p q (drop (b + length q) out))
-    ∙ ap (λ (k : ℕ). (p ++ q) ++ drop k out) far))
+    rw (whole, take-at front (drop b out) b len, ← (drop-drop (length q) b (front ++ drop b out)), drop-at front (drop b out) b len, drop-drop (length q) b out,
+      append-assoc (take a out) p q, far)
+
+pub replaced-none : (out : List ℕ) (a : ℕ) → replaced out a [] ≡ out
+replaced-none out a = rw (append-nil (take a out), add-zero a) (take-append-drop a out)
+
+-- ---- the entries of levels
+
+pub length-entries : (levels : Levels) (d : ℕ) → length (joined (entryIn levels) d) ≡ 5 * d
+unfolding joined
+length-entries levels zero = refl
+length-entries levels (suc d) = length-append (joined (entryIn levels) d) (entryIn levels d) ∙ omega (arith, length-entries levels d)
+
+pub entries-next : (levels : Levels) (out : List ℕ) (d : ℕ) → 7 + 5 * d + 5 ≤ length out
+    → sets (replaced out 7 (joined (entryIn levels) d)) (7 + 5 * d) (entryIn levels d) ≡ replaced out 7 (joined (entryIn levels) (suc d))
+unfolding joined
+entries-next levels out d h =
+    let now = replaced out 7 (joined (entryIn levels) d) in
+    let e : 7 + length (joined (entryIn levels) d) ≡ 7 + 5 * d = omega (arith, length-entries levels d) in
+    let k : 7 + 5 * d + 5 ≤ length now = rw (length-replaced out 7 (joined (entryIn levels) d) (omega (arith, e))) h in
+    sets-eq (entryIn levels d) now (7 + 5 * d) k ∙ replaced-more out 7 (7 + 5 * d) (joined (entryIn levels) d) (entryIn levels d) e (omega arith)

@@ -1,7 +1,7 @@
 -- The image of a list: the one strip that it packs to.
 use mathlib.Core.List.{List, [], _∷_, _++_}
-use Prim.Native.Nat.{ℕ, zero, suc, _+_}
-use lib.ListN.{length, take, drop}
+use Prim.Native.Nat.{ℕ, zero, suc}
+use lib.ListN.{length}
 use Rattle.codes.specs.Codes.{part}
 use Rattle.codes.specs.Choice.{chosen}
 use Rattle.tree.specs.declared.nodes.Levels.{Levels}
@@ -43,7 +43,3 @@ stripOf values = let h = height (length values) in header (length values) ++ joi
 
 abbrev pub image : List ℕ → List ℕ
 image xs = stripOf (storedValues xs)
-
--- a buffer with these bytes from byte a on
-abbrev pub replaced : List ℕ → ℕ → List ℕ → List ℕ
-replaced out a bytes = take a out ++ (bytes ++ drop (a + length bytes) out)

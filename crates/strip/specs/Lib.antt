@@ -1,5 +1,6 @@
 -- What a strip and its calls mean, in the order of 01: Layout and Image its bytes, Opening and Calls what the calls answer. Lists,
--- Outcomes and Refusals have the words that these use. Marked has 01's cases, Promises what is shown besides the contracts.
+-- Outcomes and Refusals have the words that these use. Marked has 01's cases, Promises what is shown besides the contracts. Written
+-- is cited by private functions alone.
 pub mod Lists
 pub mod Outcomes
 pub mod Refusals
@@ -8,3 +9,4 @@ pub mod Image
 pub mod Opening
 pub mod Calls
 pub mod Marked
+pub mod Written

@@ -3,14 +3,15 @@ use super::refusals::Refusal;
 use super::strip::Packed;
 use tree::Levels;
 ghost use mathlib.Core.Path.{_≡_};
-ghost use mathlib.Core.List.{List, [], _∷_};
+ghost use mathlib.Core.List.{[], _∷_};
 ghost use Prim.Native.Nat.{ℕ, _+_, _*_, _^_, _<_, _≤_};
-ghost use lib.ListN.{length};
+ghost use lib.ListN.{length, getD};
 ghost use lib.Seq.{sets};
 ghost use Rattle.tree.specs.Shape.{height};
 ghost use Rattle.strip.specs.Lists.{firstLower};
 ghost use Rattle.strip.specs.Layout.{fourBytes, header, partsStart};
-ghost use Rattle.strip.specs.Image.{entryFor, partFor, planned, joined, stripOf, replaced};
+ghost use Rattle.strip.specs.Image.{partFor, planned, joined, stripOf};
+ghost use Rattle.strip.specs.Written.{replaced, entryIn};
 ghost use Rattle.strip.specs.Outcomes.{verdict};
 ghost use Rattle.strip.specs.Calls.{packed, roomTest, written};
 
@@ -82,9 +83,9 @@ fn put_entry(out: &mut [u8], at: usize, code: u8, bytes: usize)
 
 // Writes the entries of the levels after the header.
 fn put_entries(out: &mut [u8], levels: Levels)
-    requires { ⌜ partsStart (levels .pins) ≤ length (now out) ⌝ }
-    requires { ⌜ ((vs : List ℕ) × (length vs < 2 ^ 16) × (levels ≡ planned vs)) ⌝ }
-    ensures { λ r. ⌜ ((vs : List ℕ) → levels ≡ planned vs → now (out .exit) ≡ replaced (now (out .entry)) 7 (joined (entryFor vs) (height (levels .pins)))) ⌝ }
+    requires { ⌜ (height (levels .pins) ≤ 16) × (partsStart (levels .pins) ≤ length (now out)) ⌝ }
+    requires { ⌜ ((d : ℕ) → d < height (levels .pins) → getD (levels .ends) d 0 ≤ getD (levels .ends) (d + 1) 0) ⌝ }
+    ensures { λ r. ⌜ now (out .exit) ≡ replaced (now (out .entry)) 7 (joined (entryIn levels) (height (levels .pins))) ⌝ }
 {
     let h = tree::height(levels.pins);
     let mut d: usize = 0;

@@ -1,17 +1,20 @@
 -- What is fetched from levels that hold a list's tree is what its nodes store.
 use mathlib.Core.Path.{_≡_, refl, sym, ap, _∙_}
+use mathlib.Core.Bool.{Bool, true, false, cond}
 use mathlib.Core.List.{List, [], _++_, append-nil}
-use Prim.Native.Nat.{ℕ, zero, suc, _+_, _-_, _≤_, _<_}
+use Prim.Native.Nat.{ℕ, zero, suc, _+_, _-_, _*_, _/_, _%_, _^_, _≤_, _<_}
+use native.Mathlib.Decide.{decLt}
 use native.Mathlib.Omega.{arith}
-use lib.ListN.{length, drop, getD, length-take, length-drop}
+use lib.ListN.{length, drop, getD, length-take, length-drop, List·getD-eq-default}
+use lib.Dec.{eqb, ltb}
 use lib.Seq.{getD-take, getD-drop}
 use lib.Pow.{pow-pos}
-use Rattle.codes.specs.Codes.{part}
+use Rattle.codes.specs.Codes.{part, Within}
 use Rattle.codes.specs.Fetch.{fetched, value}
 use Rattle.codes.proofs.Promises.{round-trip}
 use Rattle.tree.specs.declared.nodes.Levels.{Levels}
-use Rattle.tree.specs.Shape.{height}
-use Rattle.tree.specs.Stored.{stored, storedFrom, storedValues}
+use Rattle.tree.specs.Shape.{height, rank}
+use Rattle.tree.specs.Stored.{timeOf, timeAbove, difference, stored, storedFrom, storedValues}
 use Rattle.tree.specs.Levels.{firstOf, countOf, codeOf, partOf, levelValues, fetchedAt, Stores}
 use Rattle.tree.proofs.Heights.{digits, height-mono}
 
@@ -31,6 +34,33 @@ length-stored xs = length-from xs (length xs) 1
 
 pub getD-stored : (xs : List ℕ) (i : ℕ) → i < length xs → getD (storedValues xs) i 0 ≡ stored xs (suc i)
 getD-stored xs i h = getD-from xs (length xs) 1 i h ∙ ap (stored xs) (omega arith)
+
+difference-le : (v above time b : ℕ) → above < b → time < b → difference v above time < b
+difference-le v above time b h k = go (eqb (v % 2) 0)
+  where
+    go : (even : Bool) → cond even (above - time) (time - above) < b
+    go true = omega arith
+    go false = omega arith
+
+stored-below : (xs : List ℕ) (w v : ℕ) → Within w xs → stored xs v < 2 ^ w
+unfolding stored timeAbove timeOf
+stored-below xs w v h = difference-le v (timeAbove xs v) (timeOf xs v) (2 ^ w) (above (ltb v 2)) (h (rank (length xs) v))
+  where
+    above : (root : Bool) → cond root 0 (timeOf xs (v / 2)) < 2 ^ w
+    above true = pow-pos w
+    above false = h (rank (length xs) (v / 2))
+
+pub stored-within : (w : ℕ) (xs : List ℕ) → Within w xs → Within w (storedValues xs)
+stored-within w xs h j = elim (decLt j (length xs)) [
+  | yes l ↦ rw (getD-stored xs j l) (stored-below xs w (suc j) h)
+  | no n ↦ rw (List·getD-eq-default (storedValues xs) 0 {n = j} (rw (length-stored xs) (omega arith))) (pow-pos w)
+]
+
+pub level-half : (values : List ℕ) (l : ℕ) → 2 * length (levelValues values l) ≤ length values + 1
+level-half values zero = rw (length-take (countOf (length values) 0) (drop (firstOf 0 - 1) values)) (omega arith)
+level-half values (suc d) =
+    let e : suc d - 1 ≡ d = omega arith in
+    rw (length-take (countOf (length values) (suc d)) (drop (firstOf (suc d) - 1) values), length-drop (firstOf (suc d) - 1) values, e) (omega (arith, pow-pos d))
 
 -- a node stands on its level, and the level in the tree
 record On (n v l : ℕ) : Type 0 where

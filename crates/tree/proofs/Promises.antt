@@ -13,7 +13,7 @@ use Rattle.tree.specs.Stored.{timeOf}
 use Rattle.tree.specs.Levels.{firstOf, levelOf, fetchedAt}
 use Rattle.tree.specs.Times.{at, nodeTime}
 use Rattle.tree.specs.Walks.{toward, accessAnswer, searchNodes, searchAnswer}
-use Rattle.tree.specs.Promises.{HeightLeast, Shape, Held, Contents, SearchFinds, AccessOpens}
+use Rattle.tree.specs.Promises.{HeightLeast, Shape, Held, Contents, SearchFinds, AccessOpens, StoredLevels}
 use Rattle.tree.proofs.Heights.{digits, height-bound, height-le, height-is}
 use Rattle.tree.proofs.Stretches.{stretch-root, stretch-left, stretch-right, node-iff}
 use Rattle.tree.proofs.Inorder.{tree}
@@ -21,7 +21,7 @@ use Rattle.tree.proofs.Ranks.{rank-lt, rank-found}
 use Rattle.tree.proofs.Walks.{walk-length}
 use Rattle.tree.proofs.Paths.{toward-rank, rank-once, fromRoot-length, access-answer, search-path, search-answer}
 use Rattle.tree.proofs.Contents.{times-back}
-use Rattle.tree.proofs.LevelValues.{fetched-stored}
+use Rattle.tree.proofs.LevelValues.{length-stored, stored-within, level-half, fetched-stored}
 
 pub height-least : HeightLeast
 height-least = record {
@@ -87,3 +87,6 @@ access-opens = record {
   nodes = toward-rank;
   few = λ n i. walk-length n (λ v. eqb (rank n v) i) (λ v. ltb (rank n v) i) 1 (le-refl 1);
 }
+
+pub stored-levels : StoredLevels
+stored-levels = record { count = length-stored; within = stored-within; half = level-half }

@@ -1,5 +1,5 @@
 -- What is shown of the tree besides each function's contract. proofs/Promises proves each, as `height-least`, `shape`, `contents`,
--- `search-finds` and `access-opens`.
+-- `search-finds`, `access-opens` and `stored-levels`.
 use mathlib.Core.Path.{_≡_}
 use mathlib.Core.Logic.{_≢_, _↔_}
 use mathlib.Core.Bool.{Bool, true, false}
@@ -11,8 +11,8 @@ use Rattle.codes.specs.Codes.{Within}
 use Rattle.tree.specs.declared.nodes.Levels.{Levels}
 use Rattle.tree.specs.Shape.{height, sideOf, stretch, rank}
 use Rattle.tree.specs.Lists.{ordered, smaller}
-use Rattle.tree.specs.Stored.{timeOf}
-use Rattle.tree.specs.Levels.{firstOf, levelOf, fetchedAt, Stores}
+use Rattle.tree.specs.Stored.{timeOf, storedValues}
+use Rattle.tree.specs.Levels.{firstOf, levelOf, levelValues, fetchedAt, Stores}
 use Rattle.tree.specs.Times.{at, nodeTime}
 use Rattle.tree.specs.Walks.{walk, found, toward, accessAnswer, searchNodes, searchAnswer, path, fromRoot}
 
@@ -64,3 +64,9 @@ pub record SearchFinds : Type 0 where
 pub record AccessOpens : Type 0 where
   pub nodes : (n v : ℕ) → 1 ≤ v → v ≤ n → toward n (rank n v) ≡ fromRoot v
   pub few : (n i : ℕ) → length (toward n i) ≤ height n
+
+-- 5. There are as many stored values as times, of as many bits, and no level has more than half of them, rounded up.
+pub record StoredLevels : Type 0 where
+  pub count : (xs : List ℕ) → length (storedValues xs) ≡ length xs
+  pub within : (w : ℕ) (xs : List ℕ) → Within w xs → Within w (storedValues xs)
+  pub half : (values : List ℕ) (l : ℕ) → 2 * length (levelValues values l) ≤ length values + 1

@@ -148,7 +148,7 @@ returns-3 c =
     let all : l .levels ≡ laidOut n (codeAt s) (lengthAt s) =
     l .inv .4 ∙ ap (entered n (codeAt s) (lengthAt s)) (omega (arith, c .before .before .before .height .ensures)) ∙ entered-all n (codeAt s) (lengthAt s) in
     (rw (all, c .before .before .before .before .before .pre .0) (sym (l .inv .6 ∙ t ∙ length-agrees s (levelsIn s) (omega (arith, e)))),
-    rw all (laid-fits n (codeAt s) (lengthAt s) s (omega arith) (λ k m. l .inv .5 k (omega arith)) (rw (c .before .before .before .before .before .pre .0) (omega (arith, e)))))
+    rw all (laid-fits n (codeAt s) (lengthAt s) (omega arith) s (λ k m. l .inv .5 k (omega arith)) (rw (c .before .before .before .before .before .pre .0) (omega (arith, e)))))
 
 pub levels-of-spec : {M : Type 1} → statement M
 levels-of-spec =

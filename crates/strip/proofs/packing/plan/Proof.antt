@@ -1,28 +1,51 @@
 -- `plan` meets its contract.
 use native.Mathlib.Omega.{arith}
+use mathlib.Core.Path.{_≡_, refl, sym, ap, _∙_}
+use Prim.Native.Nat.{ℕ, suc, _+_, _-_, _*_, _/_, _^_, _≤_}
+use lib.ListN.{length}
+use Rattle.codes.specs.declared.choosing.Choice.{Choice}
+use Rattle.codes.specs.Codes.{Within}
+use Rattle.codes.specs.Choice.{chosen}
+use Rattle.tree.proofs.Promises.{height-least}
+use Rattle.strip.specs.Layout.{partsStart, endAfter}
+use Rattle.strip.specs.Image.{valuesAt, codeFor, lengthFor}
+use Rattle.strip.proofs.Layouts.{entered, entered-none, entered-next, entered-all, end-start, end-next, length-codes, length-ends}
+use Rattle.strip.proofs.Plans.{level-next, level-short, level-code, length-chosen, size-small}
 use Rattle.strip.proofs.packing.plan.Statement.{statement}
 use Rattle.strip.proofs.packing.plan.Tie as tie
 
 abbrev Inv-loop : tie.InvT-loop
-Inv-loop values n h end₀ levels₀ d₀ end levels d = ?
+Inv-loop values n h end₀ levels₀ d₀ end levels d =
+    (h ≤ 16) × (d ≤ h) × (end ≤ 87 + d * 2 ^ 32) × (end ≡ endAfter (partsStart n) (lengthFor values) d)
+    × (levels ≡ entered n (codeFor values) (lengthFor values) d) × Within 32 values
 
 abbrev μ-loop : tie.MeasureT-loop
-μ-loop values n h end₀ levels₀ d₀ end levels d = ?
+μ-loop values n h end₀ levels₀ d₀ end levels d = h - d
 
 height-requires : tie.Need-height-requires Inv-loop μ-loop
 height-requires c κs = omega arith
 
 mul-end : tie.Need-mul-end Inv-loop μ-loop
-mul-end c = omega arith
+mul-end c = omega (arith, height-least .least (length (c .before .before .args .values .now)) 16 (omega arith))
 
 add-end : tie.Need-add-end Inv-loop μ-loop
-add-end c = omega arith
+add-end c = omega (arith, height-least .least (length (c .before .before .args .values .now)) 16 (omega arith))
 
 element-write-levels : tie.Need-element-write-levels Inv-loop μ-loop
 element-write-levels c = omega arith
 
 loop-holds : tie.Need-loop-holds Inv-loop μ-loop
-loop-holds c = ?
+loop-holds c =
+    let values = c .before .before .args .values .now in
+    let n = length values in
+    let tall = height-least .least n 16 (omega arith) in (
+      omega arith,
+      omega arith,
+      omega arith,
+      rw (c .height .ensures) (sym (end-start (partsStart n) (lengthFor values))),
+      rw (c .height .ensures) (entered-none n (codeFor values) (lengthFor values)),
+      λ j. c .before .shared-slice-known .given j .fits,
+    )
 
 add-level-values : tie.Need-add-level-values Inv-loop μ-loop
 add-level-values c = omega arith
@@ -31,10 +54,17 @@ level-values-requires : tie.Need-level-values-requires Inv-loop μ-loop
 level-values-requires c κs = omega arith
 
 choose-requires : tie.Need-choose-requires Inv-loop μ-loop
-choose-requires c κs = omega arith
+choose-requires c κs =
+    let l = c .before .before .loop in
+    let values = c .before .before .before .before .before .args .values .now in
+    rw (c .level-values .ensures, level-next values (l .d)) (omega (arith, level-short values (l .d)))
 
 add-end-2 : tie.Need-add-end-2 Inv-loop μ-loop
-add-end-2 c = omega arith
+add-end-2 c =
+    let l = c .before .before .before .before .loop in
+    let values = c .before .before .before .before .before .before .before .args .values .now in
+    let ch : c .before .choose .result ≡ chosen (valuesAt values (l .d)) = c .before .choose .ensures ∙ ap chosen (c .before .before .level-values .ensures ∙ level-next values (l .d)) in
+    omega (arith, ap (λ (x : Choice). x .size) ch, size-small values (l .inv .5) (l .d), level-short values (l .d))
 
 add-end-3 : tie.Need-add-end-3 Inv-loop μ-loop
 add-end-3 c = omega arith
@@ -55,13 +85,32 @@ add-d : tie.Need-add-d Inv-loop μ-loop
 add-d c = omega arith
 
 loop-less : tie.Need-loop-less Inv-loop μ-loop
-loop-less c = ?
+loop-less c = omega arith
 
 loop-again : tie.Need-loop-again Inv-loop μ-loop
-loop-again c = ?
+loop-again c =
+    let l = c .before .before .before .before .loop in
+    let values = c .before .before .before .before .before .before .before .args .values .now in
+    let n = length values in
+    let d = l .d in
+    let next : d + 1 ≡ suc d = omega arith in
+    let r = c .before .before .level-values .ensures ∙ level-next values d in
+    let ch : c .before .choose .result ≡ chosen (valuesAt values d) = c .before .choose .ensures ∙ ap chosen r in
+    let e : l .end + (c .before .choose .result .size + 7) / 8 ≡ endAfter (partsStart n) (lengthFor values) (suc d) =
+    rw (ch, l .inv .3, ← (length-chosen values (l .inv .5) d)) (sym (end-next (partsStart n) (lengthFor values) d)) in (
+      l .inv .0,
+      omega arith,
+      omega (arith, ap (λ (x : Choice). x .size) ch, size-small values (l .inv .5) d, level-short values d),
+      rw next e,
+      rw (l .inv .4) (entered-next n (codeFor values) (lengthFor values) d (c .before .choose .result .code) (l .end + (c .before .choose .result .size + 7) / 8) (rw ch (sym (level-code values d))) e),
+      l .inv .5,
+    )
 
 returns : tie.Need-returns Inv-loop μ-loop
-returns c = ?
+returns c =
+    let values = c .before .before .before .before .args .values .now in
+    c .before .loop .inv .4 ∙ ap (entered (length values) (codeFor values) (lengthFor values)) (omega (arith, c .before .before .height .ensures))
+    ∙ entered-all (length values) (codeFor values) (lengthFor values)
 
 pub plan-spec : {M : Type 1} → statement M
 plan-spec =

@@ -1,19 +1,29 @@
 -- `put_entries` meets its contract.
 use native.Mathlib.Omega.{arith}
+use mathlib.Core.Path.{_≡_, refl, sym, ap, _∙_}
+use Prim.Native.Nat.{ℕ, _+_, _-_, _*_, _≤_}
+use native.Mathlib.Numerals.{add-one}
+use lib.ListN.{length}
+use lib.Seq.{sets}
+use Rattle.tree.specs.Shape.{height}
+use Rattle.strip.specs.Image.{joined}
+use Rattle.strip.specs.Written.{replaced, entryIn}
+use Rattle.strip.proofs.Pieces.{replaced-none, entries-next}
 use Rattle.strip.proofs.packing.put_entries.Statement.{statement}
 use Rattle.strip.proofs.packing.put_entries.Tie as tie
 
 abbrev Inv-loop : tie.InvT-loop
-Inv-loop out₀ levels h d₀ out d = ?
+Inv-loop out₀ levels h d₀ out d = (d ≤ h) × (length out ≡ length out₀) × (out ≡ replaced out₀ 7 (joined (entryIn levels) d))
 
 abbrev μ-loop : tie.MeasureT-loop
-μ-loop out₀ levels h d₀ out d = ?
+μ-loop out₀ levels h d₀ out d = h - d
 
 height-requires : tie.Need-height-requires Inv-loop μ-loop
 height-requires c κs = omega arith
 
 loop-holds : tie.Need-loop-holds Inv-loop μ-loop
-loop-holds c = ?
+unfolding joined
+loop-holds c = (omega arith, refl, sym (replaced-none (c .before .before .args .out .now) 7))
 
 mul-start : tie.Need-mul-start Inv-loop μ-loop
 mul-start c = omega arith
@@ -40,7 +50,7 @@ add-put-entry : tie.Need-add-put-entry Inv-loop μ-loop
 add-put-entry c = omega arith
 
 sub-put-entry : tie.Need-sub-put-entry Inv-loop μ-loop
-sub-put-entry c = omega arith
+sub-put-entry c = omega (arith, c .before .before .before .before .before .before .before .before .pre .1 (c .before .before .before .before .before .loop .d) (omega arith))
 
 put-entry-requires : tie.Need-put-entry-requires Inv-loop μ-loop
 put-entry-requires c κs = omega arith
@@ -49,16 +59,26 @@ add-d : tie.Need-add-d Inv-loop μ-loop
 add-d c = omega arith
 
 loop-less : tie.Need-loop-less Inv-loop μ-loop
-loop-less c = ?
+loop-less c = omega arith
 
 loop-again : tie.Need-loop-again Inv-loop μ-loop
-loop-again c = ?
+loop-again c =
+    let l = c .before .before .before .before .before .before .before .before .loop in
+    let a = c .before .before .before .before .before .before .before .before .before .before .before .args in (
+      omega arith,
+      omega arith,
+      c .before .before .put-entry .ensures ∙ ap (λ o. sets o (7 + 5 * l .d) (entryIn (a .t2) (l .d))) (l .inv .2)
+      ∙ entries-next (a .t2) (a .out .now) (l .d) (omega arith) ∙ ap (λ (d : ℕ). replaced (a .out .now) 7 (joined (entryIn (a .t2)) d)) (sym (add-one (l .d))),
+    )
 
 same-length : tie.Need-same-length Inv-loop μ-loop
 same-length c = omega arith
 
 returns : tie.Need-returns Inv-loop μ-loop
-returns c = ?
+returns c =
+    let l = c .before .loop in
+    let all : l .d ≡ height (c .before .before .before .before .args .t2 .pins) = omega (arith, c .before .before .height .ensures) in
+    rw all at (l .inv .2)
 
 pub put-entries-spec : {M : Type 1} → statement M
 put-entries-spec =
