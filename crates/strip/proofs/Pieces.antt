@@ -1,12 +1,14 @@
 -- Bytes written one after the other, and found again.
 use mathlib.Core.Path.{_≡_, refl, sym, ap, _∙_}
 use mathlib.Core.List.{List, [], _∷_, _++_, append-assoc, append-nil}
-use Prim.Native.Nat.{ℕ, zero, suc, _+_, _*_, _≤_, _<_}
-use native.Mathlib.Nat.{add-zero}
+use Prim.Native.Nat.{ℕ, zero, suc, _+_, _-_, _*_, _≤_, _<_}
+use native.Mathlib.Nat.{add-zero, mul-zero, mul-suc}
 use native.Mathlib.Decide.{decLt}
+use native.Mathlib.Numerals.{add-one}
 use native.Mathlib.Omega.{arith}
-use lib.ListN.{length, take, drop, length-append, length-take, length-drop, take-append-drop}
-use lib.Seq.{take-at, drop-at, drop-drop, length-take-le, sets, sets-eq}
+use lib.ListN.{length, take, drop, length-append, length-take, length-drop, take-append-drop, drop-of-length-le}
+use lib.Seq.{take-all, take-at, drop-at, drop-drop, length-take-le, sets, sets-eq}
+use borrow.Rule.Slice.PartMut.{midOf, putMid}
 use Rattle.tree.specs.declared.nodes.Levels.{Levels}
 use Rattle.strip.specs.Image.{joined}
 use Rattle.strip.specs.Written.{replaced, entryIn}
@@ -28,6 +30,21 @@ unfolding joined
 joined-same f g zero h = refl
 joined-same f g (suc d) h = rw (joined-same f g d (λ i k. h i (omega arith)), h d (omega arith))
 
+pub length-joined : (bytes : ℕ → List ℕ) (k : ℕ) → ((i : ℕ) → length (bytes i) ≡ k) → (d : ℕ) → length (joined bytes d) ≡ k * d
+unfolding joined
+length-joined bytes k e zero = sym (mul-zero k)
+length-joined bytes k e (suc d) = length-append (joined bytes d) (bytes d) ∙ rw (length-joined bytes k e d, e d) (sym (mul-suc k d))
+
+-- there is room for each level where there is for all
+pub joined-room : (bytes : ℕ → List ℕ) (d h : ℕ) → d < h → length (joined bytes d) + length (bytes d) ≤ length (joined bytes h)
+joined-room bytes d h l =
+    let r = joined-split bytes d h l in
+    rw (r .1, length-append (joined bytes d) (bytes d ++ r .0), length-append (bytes d) (r .0)) (omega arith)
+
+pub joined-next : (bytes : ℕ → List ℕ) (d : ℕ) → joined bytes (d + 1) ≡ joined bytes d ++ bytes d
+unfolding joined
+joined-next bytes d = rw (add-one d)
+
 pub length-replaced : (out : List ℕ) (a : ℕ) (p : List ℕ) → a + length p ≤ length out → length (replaced out a p) ≡ length out
 length-replaced out a p h =
     rw (length-append (take a out ++ p) (drop (a + length p) out), length-append (take a out) p, length-take a out, length-drop (a + length p) out) (omega arith)
@@ -47,16 +64,22 @@ replaced-none out a = rw (append-nil (take a out), add-zero a) (take-append-drop
 
 -- ---- the entries of levels
 
-pub length-entries : (levels : Levels) (d : ℕ) → length (joined (entryIn levels) d) ≡ 5 * d
-unfolding joined
-length-entries levels zero = refl
-length-entries levels (suc d) = length-append (joined (entryIn levels) d) (entryIn levels d) ∙ omega (arith, length-entries levels d)
-
 pub entries-next : (levels : Levels) (out : List ℕ) (d : ℕ) → 7 + 5 * d + 5 ≤ length out
-    → sets (replaced out 7 (joined (entryIn levels) d)) (7 + 5 * d) (entryIn levels d) ≡ replaced out 7 (joined (entryIn levels) (suc d))
-unfolding joined
+    → sets (replaced out 7 (joined (entryIn levels) d)) (7 + 5 * d) (entryIn levels d) ≡ replaced out 7 (joined (entryIn levels) (d + 1))
 entries-next levels out d h =
     let now = replaced out 7 (joined (entryIn levels) d) in
-    let e : 7 + length (joined (entryIn levels) d) ≡ 7 + 5 * d = omega (arith, length-entries levels d) in
+    let e : 7 + length (joined (entryIn levels) d) ≡ 7 + 5 * d = omega (arith, length-joined (entryIn levels) 5 (λ i. refl) d) in
     let k : 7 + 5 * d + 5 ≤ length now = rw (length-replaced out 7 (joined (entryIn levels) d) (omega (arith, e))) h in
     sets-eq (entryIn levels d) now (7 + 5 * d) k ∙ replaced-more out 7 (7 + 5 * d) (joined (entryIn levels) d) (entryIn levels d) e (omega arith)
+    ∙ ap (replaced out 7) (sym (joined-next (entryIn levels) d))
+
+-- ---- a part of the buffer, lent and written at its front
+
+pub length-lent : (out : List ℕ) (a : ℕ) → length (midOf a (length out - a) out) ≡ length out - a
+length-lent out a = rw (length-take (length out - a) (drop a out), length-drop a out) (omega arith)
+
+pub lent-written : (out : List ℕ) (a : ℕ) (p : List ℕ) → a ≤ length out → putMid a (length out - a) out (p ++ drop (length p) (midOf a (length out - a) out)) ≡ replaced out a p
+lent-written out a p h =
+    let all : take (length out - a) (drop a out) ≡ drop a out = take-all (length out - a) (drop a out) (rw (length-drop a out) (omega arith)) in
+    let none : drop (length out - a) (drop a out) ≡ [] = drop-of-length-le (drop a out) {i = length out - a} (rw (length-drop a out) (omega arith)) in
+    rw (all, none, drop-drop (length p) a out, append-nil (p ++ drop (a + length p) out)) (sym (append-assoc (take a out) p (drop (a + length p) out)))

@@ -1,24 +1,26 @@
 -- The levels of an image: the code and the bytes of each, and where its values stand.
-use mathlib.Core.Path.{_≡_, refl, sym, _∙_}
-use mathlib.Core.List.{List}
-use Prim.Native.Nat.{ℕ, suc, _+_, _-_, _*_, _/_, _^_, _≤_, _<_}
-use native.Mathlib.Nat.{add-sub-cancel-left}
+use mathlib.Core.Path.{_≡_, refl, sym, ap, _∙_}
+use mathlib.Core.List.{List, _++_}
+use Prim.Native.Nat.{ℕ, zero, suc, _+_, _-_, _*_, _/_, _^_, _≤_, _<_}
+use native.Mathlib.Nat.{zero-add, add-sub-cancel-left}
 use native.Mathlib.Decide.{decLt}
 use native.Mathlib.Numerals.{add-one}
 use native.Mathlib.Omega.{arith}
-use lib.ListN.{length, take, drop, getD, length-take, length-drop, List·getD-eq-default}
-use lib.Seq.{getD-take, getD-drop}
+use lib.ListN.{length, take, drop, getD, length-append, length-take, length-drop, List·getD-eq-default}
+use lib.Seq.{getD-take, getD-drop, sets, sets-eq}
 use lib.Pow.{pow-pos}
 use Rattle.codes.specs.Codes.{kindOf, part, Within, Holds}
 use Rattle.codes.specs.Choice.{chosen}
 use Rattle.codes.proofs.Promises.{lengths, best-choice}
+use Rattle.tree.specs.declared.nodes.Levels.{Levels}
 use Rattle.tree.specs.Shape.{height}
 use Rattle.tree.specs.Levels.{levelValues, firstOf, countOf}
 use Rattle.tree.proofs.Promises.{height-least, stored-levels}
-use Rattle.strip.specs.Layout.{partsStart, endAfter}
-use Rattle.strip.specs.Image.{valuesAt, codeFor, partFor, lengthFor, planned, entryFor}
-use Rattle.strip.specs.Written.{entryIn}
-use Rattle.strip.proofs.Layouts.{At, laid-at}
+use Rattle.strip.specs.Layout.{header, partsStart, endAfter}
+use Rattle.strip.specs.Image.{valuesAt, codeFor, partFor, lengthFor, planned, entryFor, joined, stripOf}
+use Rattle.strip.specs.Written.{replaced, entryIn}
+use Rattle.strip.proofs.Layouts.{At, laid-end, laid-at, laid-pins}
+use Rattle.strip.proofs.Pieces.{length-joined, joined-same, joined-room, replaced-more}
 
 -- part of a list of numbers below 2 ^ w
 within-part : (w k a : ℕ) (vs : List ℕ) → Within w vs → Within w (take k (drop a vs))
@@ -61,6 +63,9 @@ module _ (values : List ℕ) (w : Within 32 values) (d : ℕ) where
 
 -- ---- where the levels of an image lie
 
+pub plan-pins : (values : List ℕ) (levels : Levels) → levels ≡ planned values → levels .pins ≡ length values
+plan-pins values levels e = rw e (laid-pins (length values) (codeFor values) (lengthFor values))
+
 module _ (values : List ℕ) (few : length values < 2 ^ 16) where
   pub plan-tall : height (length values) ≤ 16
   plan-tall = height-least .least (length values) 16 (omega arith)
@@ -73,3 +78,64 @@ module _ (values : List ℕ) (few : length values < 2 ^ 16) where
   plan-entry d h =
       let k = plan-at d h in
       rw (k .code-is, k .starts, k .ends-at, add-sub-cancel-left (endAfter (partsStart (length values)) (lengthFor values) d) (lengthFor values d))
+
+-- ---- the strip of values
+
+pub length-strip : (values : List ℕ) → length (stripOf values) ≡ partsStart (length values) + length (joined (partFor values) (height (length values)))
+unfolding stripOf
+length-strip values =
+    let h = height (length values) in
+    length-append (header (length values) ++ joined (entryFor values) h) (joined (partFor values) h)
+    ∙ rw (length-append (header (length values)) (joined (entryFor values) h), length-joined (entryFor values) 5 (λ i. refl) h)
+
+-- the parts end where the levels do
+pub parts-end : (values : List ℕ) (d : ℕ) → endAfter (partsStart (length values)) (lengthFor values) d ≡ partsStart (length values) + length (joined (partFor values) d)
+unfolding endAfter joined
+parts-end values zero = omega arith
+parts-end values (suc d) = rw (parts-end values d, length-append (joined (partFor values) d) (partFor values d)) (omega arith)
+
+-- a level of the plan: its code, where its part starts, that there is room for it, and what is written for its values
+pub record Spot (values : List ℕ) (levels : Levels) (d : ℕ) : Type 0 where
+  pub code-is : getD (levels .codes) d 0 ≡ codeFor values d
+  pub starts : getD (levels .ends) d 0 ≡ partsStart (length values) + length (joined (partFor values) d)
+  pub room : getD (levels .ends) d 0 + lengthFor values d ≤ length (stripOf values)
+  pub part-is : (vs : List ℕ) → vs ≡ levelValues values (d + 1) → part (getD (levels .codes) d 0) vs ≡ partFor values d
+
+pub plan-spot : (values : List ℕ) → length values < 2 ^ 16 → (levels : Levels) → levels ≡ planned values → (d : ℕ) → d < height (length values) → Spot values levels d
+unfolding partFor
+plan-spot values few levels e d h =
+    let k = plan-at values few d h in
+    let starts = k .starts ∙ parts-end values d in
+    rw e record {
+      code-is = k .code-is;
+      starts = starts;
+      room = omega (arith, starts, length-strip values, joined-room (partFor values) d (height (length values)) h);
+      part-is = λ vs q. rw (k .code-is, q, level-next values d);
+    }
+
+module _ (values : List ℕ) (few : length values < 2 ^ 16) (levels : Levels) (e : levels ≡ planned values) where
+  pins : levels .pins ≡ length values
+  pins = plan-pins values levels e
+
+  pub plan-end : (h : ℕ) → h ≡ height (levels .pins) → getD (levels .ends) h 0 ≡ length (stripOf values)
+  plan-end h q =
+      rw (q, pins, e) (laid-end (length values) (codeFor values) (lengthFor values) (plan-tall values few) (height (length values)) (omega arith))
+      ∙ parts-end values (height (length values)) ∙ sym (length-strip values)
+
+  -- header, entries and parts, written one after the other, are the strip
+  pub strip-written : (out : List ℕ) → length (stripOf values) ≤ length out
+      → replaced (replaced (sets out 0 (header (levels .pins))) 7 (joined (entryIn levels) (height (levels .pins)))) (partsStart (levels .pins)) (joined (partFor values) (height (levels .pins)))
+      ≡ stripOf values ++ drop (length (stripOf values)) out
+  unfolding stripOf
+  strip-written out room =
+      let n = length values in
+      let h = height n in
+      let entries = joined (entryFor values) h in
+      let parts = joined (partFor values) h in
+      let same : joined (entryIn levels) h ≡ entries = rw e (joined-same (entryIn (planned values)) (entryFor values) h (plan-entry values few)) in
+      let five : length entries ≡ 5 * h = length-joined (entryFor values) 5 (λ i. refl) h in
+      let long = length-strip values in
+      rw (pins, same, sets-eq (header n) out 0 (omega arith))
+      (ap (λ (o : List ℕ). replaced o (partsStart n) parts) (replaced-more out 0 7 (header n) entries refl (omega arith))
+      ∙ replaced-more out 0 (partsStart n) (header n ++ entries) parts (rw (length-append (header n) entries) (omega (arith, five))) (omega arith)
+      ∙ ap (λ (k : ℕ). header n ++ entries ++ parts ++ drop k out) (zero-add (length (header n ++ entries ++ parts))))

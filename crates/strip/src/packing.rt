@@ -3,9 +3,9 @@ use super::refusals::Refusal;
 use super::strip::Packed;
 use tree::Levels;
 ghost use mathlib.Core.Path.{_≡_};
-ghost use mathlib.Core.List.{[], _∷_};
+ghost use mathlib.Core.List.{[], _∷_, _++_};
 ghost use Prim.Native.Nat.{ℕ, _+_, _*_, _^_, _<_, _≤_};
-ghost use lib.ListN.{length, getD};
+ghost use lib.ListN.{length, drop, getD};
 ghost use lib.Seq.{sets};
 ghost use Rattle.tree.specs.Shape.{height};
 ghost use Rattle.strip.specs.Lists.{firstLower};
@@ -106,13 +106,24 @@ fn put_parts(out: &mut [u8], work: &mut [u32], values: &[u32], levels: Levels)
     ensures { λ r. ⌜ now (out .exit) ≡ replaced (now (out .entry)) (partsStart (levels .pins)) (joined (partFor (now (values .entry))) (height (levels .pins))) ⌝ }
 {
     let h = tree::height(levels.pins);
-    let mut at = levels.ends[0];
     let mut d: usize = 0;
     while d < h {
+        let start = levels.ends[d];
         let code = levels.codes[d];
-        at += codes::encode(&mut out[at..], work, tree::level_values(values, d + 1), code);
+        codes::encode(&mut out[start..], work, tree::level_values(values, d + 1), code);
         d += 1;
     }
+}
+
+// Writes the strip of the values to the front.
+fn put_strip(out: &mut [u8], work: &mut [u32], values: &[u32], levels: Levels)
+    requires { ⌜ (length (now values) < 2 ^ 16) × (length (now values) + 1 ≤ 2 * length (now work)) × (levels ≡ planned (now values)) ⌝ }
+    requires { ⌜ length (stripOf (now values)) ≤ length (now out) ⌝ }
+    ensures { λ r. ⌜ now (out .exit) ≡ stripOf (now (values .entry)) ++ drop (length (stripOf (now (values .entry)))) (now (out .entry)) ⌝ }
+{
+    put_header(out, levels.pins);
+    put_entries(out, levels);
+    put_parts(out, work, values, levels);
 }
 
 // Packs the values of a tree, in node order, where the output has room.
@@ -127,8 +138,6 @@ pub(crate) fn pack_values(out: &mut [u8], work: &mut [u32], values: &[u32]) -> P
     if out.len() < end {
         return Packed::Refused(Refusal::Short(end));
     }
-    put_header(out, levels.pins);
-    put_entries(out, levels);
-    put_parts(out, work, values, levels);
+    put_strip(out, work, values, levels);
     Packed::Length(end)
 }

@@ -1,8 +1,7 @@
 -- `put_entries` meets its contract.
 use native.Mathlib.Omega.{arith}
 use mathlib.Core.Path.{_≡_, refl, sym, ap, _∙_}
-use Prim.Native.Nat.{ℕ, _+_, _-_, _*_, _≤_}
-use native.Mathlib.Numerals.{add-one}
+use Prim.Native.Nat.{_+_, _-_, _*_, _≤_}
 use lib.ListN.{length}
 use lib.Seq.{sets}
 use Rattle.tree.specs.Shape.{height}
@@ -68,7 +67,7 @@ loop-again c =
       omega arith,
       omega arith,
       c .before .before .put-entry .ensures ∙ ap (λ o. sets o (7 + 5 * l .d) (entryIn (a .t2) (l .d))) (l .inv .2)
-      ∙ entries-next (a .t2) (a .out .now) (l .d) (omega arith) ∙ ap (λ (d : ℕ). replaced (a .out .now) 7 (joined (entryIn (a .t2)) d)) (sym (add-one (l .d))),
+      ∙ entries-next (a .t2) (a .out .now) (l .d) (omega arith),
     )
 
 same-length : tie.Need-same-length Inv-loop μ-loop
