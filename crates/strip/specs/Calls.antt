@@ -16,7 +16,7 @@ use Rattle.strip.specs.declared.strip.Accessed.the-variants as access
 use Rattle.strip.specs.declared.strip.Searched.{Searched}
 use Rattle.strip.specs.declared.strip.Searched.the-variants as search
 use Rattle.strip.specs.Lists.{firstLower}
-use Rattle.strip.specs.Outcomes.{Outcome, gives, refuses, Test, test, verdict, walked}
+use Rattle.strip.specs.Outcomes.{Outcome, gives, refuses, Test, test, verdict, after, walked}
 use Rattle.strip.specs.Refusals.{refusalNumber, carried}
 use Rattle.strip.specs.Layout.{maxPins}
 use Rattle.strip.specs.Image.{image}
@@ -31,9 +31,12 @@ listTests xs = test (eqb (length xs) 0) 1 0 ∷ test (ltb maxPins (length xs)) 2
 abbrev pub roomTest : ℕ → List ℕ → Test
 roomTest room bytes = test (ltb room (length bytes)) 4 (length bytes)
 
+abbrev pub roomed : ℕ → List ℕ → Outcome ℕ
+roomed room bytes = verdict (roomTest room bytes ∷ []) (length bytes)
+
 -- gives the image's length in bytes
 unfoldable pub packAnswer : List ℕ → ℕ → Outcome ℕ
-packAnswer xs room = verdict (listTests xs ++ (roomTest room (image xs) ∷ [])) (length (image xs))
+packAnswer xs room = after (verdict (listTests xs) xs) (λ list. roomed room (image list))
 
 -- the output with these bytes at the front; a refusal writes nothing
 abbrev pub written : Outcome ℕ → List ℕ → List ℕ → List ℕ

@@ -3,17 +3,18 @@ use super::refusals::Refusal;
 use super::strip::Packed;
 use tree::Levels;
 ghost use mathlib.Core.Path.{_≡_};
-ghost use mathlib.Core.List.{[], _∷_, _++_};
+ghost use mathlib.Core.List.{_∷_, _++_};
 ghost use Prim.Native.Nat.{ℕ, _+_, _*_, _^_, _<_, _≤_};
+ghost use lib.Dec.{T};
 ghost use lib.ListN.{length, drop, getD};
 ghost use lib.Seq.{sets};
 ghost use Rattle.tree.specs.Shape.{height};
+ghost use Rattle.tree.specs.Lists.{ordered};
 ghost use Rattle.strip.specs.Lists.{firstLower};
 ghost use Rattle.strip.specs.Layout.{fourBytes, header, partsStart};
-ghost use Rattle.strip.specs.Image.{partFor, planned, joined, stripOf};
+ghost use Rattle.strip.specs.Image.{partFor, planned, joined, stripOf, image};
 ghost use Rattle.strip.specs.Written.{replaced, entryIn};
-ghost use Rattle.strip.specs.Outcomes.{verdict};
-ghost use Rattle.strip.specs.Calls.{packed, roomTest, written};
+ghost use Rattle.strip.specs.Calls.{packed, roomed, written};
 
 // The first position that is lower than the one before it, or the length.
 pub(crate) fn first_lower(times: &[u32]) -> usize
@@ -127,10 +128,10 @@ fn put_strip(out: &mut [u8], work: &mut [u32], values: &[u32], levels: Levels)
 }
 
 // Packs the values of a tree, in node order, where the output has room.
-pub(crate) fn pack_values(out: &mut [u8], work: &mut [u32], values: &[u32]) -> Packed
+fn pack_values(out: &mut [u8], work: &mut [u32], values: &[u32]) -> Packed
     requires { ⌜ (length (now values) < 2 ^ 16) × (length (now values) + 1 ≤ 2 * length (now work)) ⌝ }
-    ensures { λ r. ⌜ packed r ≡ verdict (roomTest (length (now (out .entry))) (stripOf (now (values .entry))) ∷ []) (length (stripOf (now (values .entry)))) ⌝ }
-    ensures { λ r. ⌜ now (out .exit) ≡ written (verdict (roomTest (length (now (out .entry))) (stripOf (now (values .entry))) ∷ []) (length (stripOf (now (values .entry))))) (stripOf (now (values .entry))) (now (out .entry)) ⌝ }
+    ensures { λ r. ⌜ packed r ≡ roomed (length (now (out .entry))) (stripOf (now (values .entry))) ⌝ }
+    ensures { λ r. ⌜ now (out .exit) ≡ written (roomed (length (now (out .entry))) (stripOf (now (values .entry)))) (stripOf (now (values .entry))) (now (out .entry)) ⌝ }
 {
     let levels = plan(values);
     let h = tree::height(levels.pins);
@@ -140,4 +141,17 @@ pub(crate) fn pack_values(out: &mut [u8], work: &mut [u32], values: &[u32]) -> P
     }
     put_strip(out, work, values, levels);
     Packed::Length(end)
+}
+
+// Packs an ordered list, where the output has room. The values and what encoding works in are arrays for the longest list.
+pub(crate) fn pack_list(out: &mut [u8], times: &[u32]) -> Packed
+    requires { ⌜ T (ordered (now times)) × (length (now times) < 2 ^ 16) ⌝ }
+    ensures { λ r. ⌜ packed r ≡ roomed (length (now (out .entry))) (image (now (times .entry))) ⌝ }
+    ensures { λ r. ⌜ now (out .exit) ≡ written (roomed (length (now (out .entry))) (image (now (times .entry)))) (image (now (times .entry))) (now (out .entry)) ⌝ }
+{
+    let n = times.len();
+    let mut values = [0u32; 65535];
+    let mut work = [0u32; 32768];
+    tree::construct(&mut values, times);
+    pack_values(out, &mut work, &values[..n])
 }

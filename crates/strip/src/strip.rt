@@ -2,7 +2,7 @@
 use super::opening::Status;
 use super::opening::opening_of;
 use super::packing::first_lower;
-use super::packing::pack_values;
+use super::packing::pack_list;
 use super::refusals::Refusal;
 use super::refusals::of_walk;
 use tree::Levels;
@@ -98,10 +98,7 @@ impl Strip {
         if lower < n {
             return Packed::Refused(Refusal::ListFalls(lower));
         }
-        let mut values = [0u32; 65535];
-        let mut work = [0u32; 32768];
-        tree::construct(&mut values, times);
-        pack_values(out, &mut work, &values[..n])
+        pack_list(out, times)
     }
 
     // The time at position i.

@@ -1,0 +1,61 @@
+-- `pack` meets its contract.
+use native.Mathlib.Omega.{arith}
+use mathlib.Core.Path.{refl}
+use lib.ListN.{length}
+use borrow.Author.Tests.{lt-ltb, le-ltb, eq-eqb, ne-eqb, le-leb, lt-leb}
+use Rattle.strip.specs.Lists.{firstLower}
+use Rattle.strip.specs.Outcomes.{verdict}
+use Rattle.strip.specs.Layout.{maxPins}
+use Rattle.strip.specs.Calls.{packAnswer, packOutput}
+use Rattle.strip.proofs.Falls.{ordered-lower}
+use borrow.Author.Needs.{needs}
+use Rattle.strip.proofs.strip.Strip.pack.Statement.{statement}
+use Rattle.strip.proofs.strip.Strip.pack.Tie as tie
+
+returns : tie.Need-returns
+unfolding packAnswer packOutput verdict
+returns c =
+    let xs = c .before .before .before .args .times .now in
+    rw (eq-eqb (length xs) 0 (omega arith)) (refl, refl)
+
+returns-2 : tie.Need-returns-2
+unfolding packAnswer packOutput verdict
+returns-2 c =
+    let xs = c .before .before .before .before .args .times .now in
+    rw (ne-eqb (length xs) 0 (λ e. omega arith), lt-ltb maxPins (length xs) (omega arith)) (refl, refl)
+
+first-lower-requires : tie.Need-first-lower-requires
+first-lower-requires c κs = search needs
+
+returns-3 : tie.Need-returns-3
+unfolding packAnswer packOutput verdict
+returns-3 c =
+    let xs = c .before .before .before .before .before .before .args .times .now in
+    rw (ne-eqb (length xs) 0 (λ e. omega arith), le-ltb maxPins (length xs) (omega arith), ordered-lower xs, lt-leb (length xs) (firstLower xs) (omega (arith, c .before .first-lower .ensures)), c .before .first-lower .ensures) (refl, refl)
+
+pack-list-requires : tie.Need-pack-list-requires
+pack-list-requires c κs =
+    let xs = c .before .before .before .before .before .before .before .args .times .now in
+    (rw (ordered-lower xs, le-leb (length xs) (firstLower xs) (omega (arith, c .before .before .first-lower .ensures))) tt, omega arith)
+
+same-length : tie.Need-same-length
+same-length c = search needs
+
+returns-4 : tie.Need-returns-4
+unfolding packAnswer packOutput verdict
+returns-4 c =
+    let xs = c .before .before .before .before .before .before .before .before .before .before .args .times .now in
+    rw (ne-eqb (length xs) 0 (λ e. omega arith), le-ltb maxPins (length xs) (omega arith), ordered-lower xs, le-leb (length xs) (firstLower xs) (omega (arith, c .before .before .before .before .before .first-lower .ensures)))
+    (c .before .before .pack-list .ensures)
+
+pub pack-spec : {M : Type 1} → statement M
+pack-spec =
+    tie.close
+    (tie.spec
+    returns
+    returns-2
+    first-lower-requires
+    returns-3
+    pack-list-requires
+    same-length
+    returns-4)
