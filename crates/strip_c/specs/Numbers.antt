@@ -1,8 +1,14 @@
 -- The answers of the calls as three numbers.
 use Prim.Native.Nat.{ℕ}
 use Rattle.tree.specs.Walks as walks
+use Rattle.strip.specs.declared.refusals.Refusal.{Refusal}
+use Rattle.strip.specs.Refusals.{refusalNumber, carried}
 use Rattle.strip.specs.Outcomes.{Outcome, gives, refuses}
 use Rattle.strip_c.specs.declared.Answer.{Answer}
+
+-- the number of a refusal and what it carries
+abbrev pub ofRefusal : Refusal → Answer
+ofRefusal r = record { refusal = refusalNumber r; value = carried r; nodes = 0 }
 
 -- what is given and the nodes opened, or the number of a refusal and what it carries
 abbrev pub ofWalk : walks.Answer → Answer

@@ -2,9 +2,8 @@
 ghost use mathlib.Core.Path.{_≡_};
 ghost use lib.ListN.{length};
 ghost use Rattle.tree.specs.Shape.{height, rootPlace};
-ghost use Rattle.strip.specs.Refusals.{refusalNumber, carried};
 ghost use Rattle.strip.specs.Calls.{packAnswer, packOutput, accessOf, searchOf, searched, upToOf};
-ghost use Rattle.strip_c.specs.Numbers.{ofWalk, ofOutcome};
+ghost use Rattle.strip_c.specs.Numbers.{ofRefusal, ofWalk, ofOutcome};
 use strip::Accessed;
 use strip::Packed;
 use strip::Refusal;
@@ -40,7 +39,7 @@ fn numbered(number: usize, carried: usize) -> Answer
 }
 
 fn refused(r: Refusal) -> Answer
-    ensures { λ x. ⌜ x ≡ record { refusal = refusalNumber r; value = carried r; nodes = 0 } ⌝ }
+    ensures { λ x. ⌜ x ≡ ofRefusal r ⌝ }
 {
     match r {
         Refusal::Empty => numbered(1, 0),
