@@ -57,6 +57,27 @@ end-mono start len d (suc e) h = elim (decLt d (suc e)) [
   | no n ↦ let q : d ≡ suc e = omega arith in rw q (le-refl (endAfter start len (suc e)))
 ]
 
+-- lengths and codes that agree as far as there are levels
+pub end-same : (start : ℕ) (f g : ℕ → ℕ) (d : ℕ) → ((i : ℕ) → i < d → f i ≡ g i) → endAfter start f d ≡ endAfter start g d
+unfolding endAfter
+end-same start f g zero h = refl
+end-same start f g (suc d) h = rw (end-same start f g d (λ i k. h i (omega arith)), h d (omega arith))
+
+codes-same : (f g : ℕ → ℕ) (d : ℕ) → ((i : ℕ) → i < d → f i ≡ g i) → codesOf f d ≡ codesOf g d
+unfolding codesOf
+codes-same f g zero h = refl
+codes-same f g (suc d) h = rw (codes-same f g d (λ i k. h i (omega arith)), h d (omega arith))
+
+ends-same : (start : ℕ) (f g : ℕ → ℕ) (d : ℕ) → ((i : ℕ) → i < d → f i ≡ g i) → endsOf start f d ≡ endsOf start g d
+unfolding endsOf
+ends-same start f g zero h = refl
+ends-same start f g (suc d) h = rw (ends-same start f g d (λ i k. h i (omega arith)), end-same start f g (suc d) h)
+
+pub laid-same : (n : ℕ) (code code′ len len′ : ℕ → ℕ) → ((i : ℕ) → i < height n → code i ≡ code′ i) → ((i : ℕ) → i < height n → len i ≡ len′ i)
+    → laidOut n code len ≡ laidOut n code′ len′
+unfolding laidOut
+laid-same n code code′ len len′ p q = rw (codes-same code code′ (height n) p, ends-same (partsStart n) len len′ (height n) q)
+
 -- the first d levels entered
 abbrev pub entered : ℕ → (ℕ → ℕ) → (ℕ → ℕ) → ℕ → Levels
 entered n code len d = record { pins = n; codes = codesOf code d; ends = endsOf (partsStart n) len d }

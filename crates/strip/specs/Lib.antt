@@ -9,4 +9,5 @@ pub mod Image
 pub mod Opening
 pub mod Calls
 pub mod Marked
+pub mod Promises
 pub mod Written

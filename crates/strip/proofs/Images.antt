@@ -1,0 +1,127 @@
+-- The image of values in node order, read again: opening it finds the plan by which it was written.
+use mathlib.Core.Path.{_≡_, refl, sym, ap, _∙_}
+use mathlib.Core.Bool.{Bool, true, false}
+use mathlib.Core.List.{List, [], _∷_, _++_, append-assoc}
+use Prim.Native.Nat.{ℕ, zero, suc, _+_, _-_, _*_, _/_, _%_, _^_, _≤_, _<_}
+use native.Mathlib.Nat.{add-zero, add-sub-cancel-left}
+use native.Mathlib.Omega.{arith}
+use lib.ListN.{length, take, drop, getD, length-append}
+use lib.Seq.{getD-drop, drop-at, take-at, drop-append-add}
+use borrow.Author.Tests.{le-ltb, ne-eqb, eq-eqb}
+use Rattle.codes.specs.declared.kinds.Kind.{Kind}
+use Rattle.codes.specs.declared.kinds.Kind.the-variants.{Fixed, Chunked, Refused}
+use Rattle.codes.specs.Codes.{kindOf, Within, Holds}
+use Rattle.tree.specs.Shape.{height}
+use Rattle.tree.specs.Levels.{partOf}
+use Rattle.strip.specs.Outcomes.{Outcome, Test, gives, verdict, after}
+use Rattle.strip.specs.Layout.{header, twoAt, fourAt, fourBytes, pinsOf, codeAt, lengthAt, partsStart, endAfter, laidOut}
+use Rattle.strip.specs.Image.{valuesAt, codeFor, partFor, lengthFor, planned, entryFor, joined, stripOf}
+use Rattle.strip.specs.Opening.{headerTests, isRefused, codeTests, toldLength, lengthTest, levelTests, levelsIn, opening}
+use Rattle.strip.proofs.Verdicts.{verdict-passes}
+use Rattle.strip.proofs.Pieces.{joined-split, length-joined}
+use Rattle.strip.proofs.Layouts.{end-same, laid-same}
+use Rattle.strip.proofs.Plans.{plan-tall, plan-at, plan-pins, length-strip, parts-end, level-short, level-holds, length-chosen, size-small}
+use Rattle.strip.proofs.Openings.{length-agrees, opening-steps}
+
+-- a number of four bytes, read back
+pub four-back : (x : ℕ) → x < 2 ^ 32 → ((x / 2 ^ 16 / 2 ^ 8 % 2 ^ 8) * 2 ^ 8 + x / 2 ^ 16 % 2 ^ 8) * 2 ^ 16 + ((x / 2 ^ 8 % 2 ^ 8) * 2 ^ 8 + x % 2 ^ 8) ≡ x
+four-back x h = omega arith
+
+-- a code that holds values is not refused
+holds-known : (k : Kind) (vs : List ℕ) → Holds k vs → isRefused k ≡ false
+holds-known (Fixed w) vs h = refl
+holds-known (Chunked b) vs h = refl
+holds-known Refused vs h = absurd h
+
+-- where no code is refused
+codes-all : {A : Type 0} (s : List ℕ) (ts : List Test) (a : A) (k d : ℕ) → ((i : ℕ) → i < d + k → isRefused (kindOf (codeAt s i)) ≡ false)
+    → verdict (codeTests s k d ++ ts) a ≡ verdict ts a
+unfolding codeTests
+codes-all s ts a zero d h = refl
+codes-all s ts a (suc k) d h =
+    verdict-passes 8 (suc d) (codeTests s k (suc d) ++ ts) a (isRefused (kindOf (codeAt s d))) (h d (omega arith))
+    ∙ codes-all s ts a k (suc d) (λ i l. h i (omega arith))
+
+module _ (values : List ℕ) (some : 1 ≤ length values) (few : length values < 2 ^ 16) (w : Within 32 values) where
+  pins-back : pinsOf (stripOf values) ≡ length values
+  unfolding stripOf
+  pins-back = omega arith
+
+  -- from the entry of a level on
+  from-entry : (d : ℕ) → d < height (length values) → (later : List ℕ) × (drop (7 + 5 * d) (stripOf values) ≡ entryFor values d ++ later)
+  unfolding stripOf
+  from-entry d l =
+      let h = height (length values) in
+      let parts = joined (partFor values) h in
+      let r = joined-split (entryFor values) d h l in
+      let before = joined (entryFor values) d in
+      let len : length (header (length values) ++ before) ≡ 7 + 5 * d = rw (length-append (header (length values)) before, length-joined (entryFor values) 5 (λ i. refl) d) (omega arith) in
+      (r .0 ++ parts,
+      ap (λ (e : List ℕ). drop (7 + 5 * d) (header (length values) ++ e ++ parts)) (r .1)
+      ∙ ap (λ (e : List ℕ). drop (7 + 5 * d) (e ++ parts)) (sym (append-assoc (header (length values)) before (entryFor values d ++ r .0)))
+      ∙ ap (drop (7 + 5 * d)) (append-assoc (header (length values) ++ before) (entryFor values d ++ r .0) parts)
+      ∙ drop-at (header (length values) ++ before) (entryFor values d ++ r .0 ++ parts) (7 + 5 * d) len
+      ∙ append-assoc (entryFor values d) (r .0) parts)
+
+  byte-back : (d k : ℕ) (l : d < height (length values)) → getD (stripOf values) (7 + 5 * d + k) 0 ≡ getD (entryFor values d ++ from-entry d l .0) k 0
+  byte-back d k l = sym (getD-drop (7 + 5 * d) (stripOf values) k 0) ∙ ap (λ (x : List ℕ). getD x k 0) (from-entry d l .1)
+
+  code-back : (d : ℕ) → d < height (length values) → codeAt (stripOf values) d ≡ codeFor values d
+  code-back d l = rw (add-zero (7 + 5 * d)) at (byte-back d 0 l)
+
+  small : (d : ℕ) → lengthFor values d < 2 ^ 32
+  small d = omega (arith, length-chosen values w d, size-small values w d, level-short values d)
+
+  length-back : (d : ℕ) → d < height (length values) → lengthAt (stripOf values) d ≡ lengthFor values d
+  length-back d l =
+      let a1 : 8 + 5 * d ≡ 7 + 5 * d + 1 = omega arith in
+      let a2 : 8 + 5 * d + 1 ≡ 7 + 5 * d + 2 = omega arith in
+      let a3 : 8 + 5 * d + 2 ≡ 7 + 5 * d + 3 = omega arith in
+      let a4 : 8 + 5 * d + 2 + 1 ≡ 7 + 5 * d + 4 = omega arith in
+      rw (a4, a3, a2, a1, byte-back d 1 l, byte-back d 2 l, byte-back d 3 l, byte-back d 4 l) (four-back (lengthFor values d) (small d))
+
+  told-back : toldLength (stripOf values) ≡ length (stripOf values)
+  told-back =
+      rw pins-back (end-same (partsStart (length values)) (lengthAt (stripOf values)) (lengthFor values) (height (length values)) length-back)
+      ∙ parts-end values (height (length values)) ∙ sym (length-strip values)
+
+  levels-back : levelsIn (stripOf values) ≡ planned values
+  levels-back =
+      rw pins-back (laid-same (length values) (codeAt (stripOf values)) (codeFor values) (lengthAt (stripOf values)) (lengthFor values) code-back length-back)
+
+  header-passes : verdict (headerTests (stripOf values)) (pinsOf (stripOf values)) ≡ gives (pinsOf (stripOf values))
+  unfolding verdict stripOf
+  header-passes =
+      let s = stripOf values in
+      rw (le-ltb (length s) 7 (omega (arith, length-strip values)), ne-eqb (pinsOf s) 0 (λ e. omega (arith, pins-back)),
+        le-ltb (length s) (partsStart (pinsOf s)) (rw pins-back (omega (arith, length-strip values))))
+
+  known : (i : ℕ) → i < height (pinsOf (stripOf values)) → isRefused (kindOf (codeAt (stripOf values) i)) ≡ false
+  known i l =
+      let k = rw pins-back at l in
+      rw (code-back i k) (holds-known (kindOf (codeFor values i)) (valuesAt values i) (level-holds values w i))
+
+  pub strip-opens : opening (stripOf values) ≡ gives (planned values)
+  strip-opens =
+      let s = stripOf values in
+      opening-steps s ∙ ap (λ (o : Outcome ℕ). after o (λ _. verdict (levelTests s) (levelsIn s))) header-passes
+      ∙ codes-all s (lengthTest s ∷ []) (levelsIn s) (height (pinsOf s)) 0 (λ i l. known i (omega arith))
+      ∙ length-agrees s (levelsIn s) told-back ∙ ap gives levels-back
+
+  -- the part of a level, where the plan says
+  pub part-back : (d : ℕ) → d < height (length values) → partOf (planned values) (stripOf values) (suc d) ≡ partFor values d
+  unfolding partOf stripOf
+  part-back d l =
+      let h = height (length values) in
+      let e : suc d - 1 ≡ d = omega arith in
+      let next : suc d ≡ d + 1 = omega arith in
+      let k = plan-at values few d l in
+      let front = header (length values) ++ joined (entryFor values) h in
+      let before = joined (partFor values) d in
+      let r = joined-split (partFor values) d h l in
+      let at = endAfter (partsStart (length values)) (lengthFor values) d in
+      let len : length (front ++ before) ≡ at =
+      rw (length-append front before, length-append (header (length values)) (joined (entryFor values) h), length-joined (entryFor values) 5 (λ i. refl) h, parts-end values d) in
+      let split : front ++ joined (partFor values) h ≡ front ++ before ++ (partFor values d ++ r .0) = ap (λ (x : List ℕ). front ++ x) (r .1) ∙ sym (append-assoc front before (partFor values d ++ r .0)) in
+      rw (e, k .starts, next, k .ends-at, add-sub-cancel-left at (lengthFor values d), split, drop-at (front ++ before) (partFor values d ++ r .0) at len)
+      (take-at (partFor values d) (r .0) (lengthFor values d) refl)

@@ -1,0 +1,126 @@
+-- The promises of specs/Promises.
+use mathlib.Core.Path.{_≡_, refl, sym, ap, _∙_}
+use mathlib.Core.Bool.{Bool, true, false, cond}
+use mathlib.Core.List.{List}
+use Prim.Native.Nat.{ℕ, suc, _-_, _^_, _≤_, _<_}
+use native.Mathlib.Decide.{decLt}
+use native.Mathlib.Omega.{arith}
+use lib.Dec.{T, eqb}
+use lib.ListN.{length}
+use borrow.Author.Tests.{lt-ltb, le-ltb, eq-eqb, ne-eqb}
+use Rattle.codes.specs.Codes.{kindOf, part, Within, Holds}
+use Rattle.codes.specs.Choice.{size}
+use Rattle.codes.proofs.Promises.{best-choice}
+use Rattle.tree.specs.declared.nodes.Levels.{Levels}
+use Rattle.tree.specs.Shape.{height}
+use Rattle.tree.specs.Lists.{ordered}
+use Rattle.tree.specs.Stored.{storedValues}
+use Rattle.tree.specs.Levels.{codeOf, partOf, levelValues, Stores}
+use Rattle.tree.specs.Walks.{found, searchAnswer, path}
+use Rattle.tree.specs.Promises.{Held}
+use Rattle.tree.proofs.Promises.{stored-levels, contents, search-finds}
+use Rattle.strip.specs.Outcomes.{Outcome, gives, refuses, verdict, walked}
+use Rattle.strip.specs.Layout.{maxPins}
+use Rattle.strip.specs.Image.{valuesAt, codeFor, partFor, planned, image}
+use Rattle.strip.specs.Opening.{opening}
+use Rattle.strip.specs.Calls.{packAnswer, written, packOutput, accessOf, searchOf, upToOf}
+use Rattle.strip.specs.Promises.{Packable, PacksOnce, Opens, ImageOpens, Back, RoundTrip}
+use Rattle.strip.proofs.Counts.{smaller-next, upTo-all}
+use Rattle.strip.proofs.Images.{strip-opens, part-back}
+use Rattle.strip.proofs.Plans.{plan-at, plan-pins, level-holds, values-within}
+
+T-true : (b : Bool) → T b → b ≡ true
+T-true true h = refl
+T-true false h = absurd h
+
+packs : (xs out : List ℕ) → Packable xs → length (image xs) ≤ length out → packAnswer xs (length out) ≡ gives (length (image xs))
+unfolding packAnswer verdict
+packs xs out p room =
+    rw (ne-eqb (length xs) 0 (λ e. omega (arith, p .some)), le-ltb maxPins (length xs) (p .few), T-true (ordered xs) (p .in-order), le-ltb (length out) (length (image xs)) room)
+
+pub packs-once : PacksOnce
+unfolding packOutput
+packs-once xs out p room = let e = packs xs out p room in record { answer = e; output = ap (λ (o : Outcome ℕ). written o (image xs) out) e }
+
+module _ (xs : List ℕ) (p : Packable xs) where
+  count : length (storedValues xs) ≡ length xs
+  count = stored-levels .count xs
+
+  some : 1 ≤ length (storedValues xs)
+  some = rw count (p .some)
+
+  few : length (storedValues xs) < 2 ^ 16
+  few = rw count (omega (arith, p .few))
+
+  within : Within 32 (storedValues xs)
+  within = stored-levels .within 32 xs (p .times)
+
+  opened : opening (image xs) ≡ gives (planned (storedValues xs))
+  opened = strip-opens (storedValues xs) some few within
+
+  -- the code of a level, by the plan
+  code-is : (d : ℕ) → d < height (length xs) → codeOf (planned (storedValues xs)) (suc d) ≡ codeFor (storedValues xs) d
+  code-is d l =
+      let e : suc d - 1 ≡ d = omega arith in
+      rw e (plan-at (storedValues xs) few d (rw count l) .code-is)
+
+  held : Held (planned (storedValues xs)) (image xs) xs
+  unfolding partFor
+  held = record {
+    in-order = p .in-order;
+    times = p .times;
+    stores = record {
+      pins-are = plan-pins (storedValues xs) (planned (storedValues xs)) refl ∙ count;
+      holds = holds;
+      parts-are = parts;
+    };
+  }
+    where
+      holds : (l : ℕ) → 1 ≤ l → l ≤ height (length xs) → Holds (kindOf (codeOf (planned (storedValues xs)) l)) (levelValues (storedValues xs) l)
+      holds (suc d) a b = rw (code-is d b) (level-holds (storedValues xs) within d)
+
+      parts : (l : ℕ) → 1 ≤ l → l ≤ height (length xs)
+          → partOf (planned (storedValues xs)) (image xs) l ≡ part (codeOf (planned (storedValues xs)) l) (levelValues (storedValues xs) l)
+      parts (suc d) a b = rw (code-is d b) (part-back (storedValues xs) some few within d (rw count b))
+
+  image-opened : Opens xs (planned (storedValues xs))
+  unfolding codeFor
+  image-opened = record { opened = opened; held = held; fewest = fewest; on-tie = on-tie }
+    where
+      fewest : (l code : ℕ) → 1 ≤ l → l ≤ height (length xs) → Holds (kindOf code) (levelValues (storedValues xs) l)
+          → size (codeOf (planned (storedValues xs)) l) (levelValues (storedValues xs) l) ≤ size code (levelValues (storedValues xs) l)
+      fewest (suc d) code a b h =
+          let best = best-choice (valuesAt (storedValues xs) d) (values-within (storedValues xs) within d) in
+          rw (code-is d b) (omega (arith, best .fewest code h, best .its-size))
+
+      on-tie : (l code : ℕ) → 1 ≤ l → l ≤ height (length xs) → Holds (kindOf code) (levelValues (storedValues xs) l)
+          → size code (levelValues (storedValues xs) l) ≡ size (codeOf (planned (storedValues xs)) l) (levelValues (storedValues xs) l)
+          → codeOf (planned (storedValues xs)) l ≤ code
+      on-tie (suc d) code a b h e =
+          let best = best-choice (valuesAt (storedValues xs) d) (values-within (storedValues xs) within d) in
+          rw (code-is d b) (best .on-tie code h (rw (code-is d b) at e ∙ sym (best .its-size)))
+
+  pins : planned (storedValues xs) .pins ≡ length xs
+  pins = held .stores .pins-are
+
+  back : Back xs
+  unfolding accessOf searchOf upToOf
+  back = record {
+    access = λ i l. rw (opened, lt-ltb i (planned (storedValues xs) .pins) (rw pins l)) (contents .access (planned (storedValues xs)) (image xs) xs held i l);
+    search = λ t. rw opened (search-finds .answer (planned (storedValues xs)) (image xs) xs held t);
+    nodes = λ t levels e. rw (ap (levelsOr levels) (sym e ∙ opened)) (search-finds .nodes (planned (storedValues xs)) (image xs) xs held t);
+    up-to = λ t h. rw opened (elim (decLt t (2 ^ 32 - 1)) [
+      | yes l ↦ rw (ne-eqb t (2 ^ 32 - 1) (λ e. omega arith), ← (smaller-next t xs)) (search-finds .answer (planned (storedValues xs)) (image xs) xs held (suc t))
+      | no n ↦ rw (eq-eqb t (2 ^ 32 - 1) (omega arith), pins, upTo-all t xs (λ i. omega (arith, p .times i)))
+    ]);
+  }
+    where
+      levelsOr : Levels → Outcome Levels → Levels
+      levelsOr other (gives levels) = levels
+      levelsOr other (refuses r c) = other
+
+pub image-opens : ImageOpens
+image-opens xs p = (planned (storedValues xs), image-opened xs p)
+
+pub round-trip : RoundTrip
+round-trip = back

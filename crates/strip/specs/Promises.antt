@@ -1,0 +1,62 @@
+-- What is shown of strips besides each call's contract. proofs/Promises proves each, as `packs-once`, `image-opens` and `round-trip`.
+use mathlib.Core.Path.{_≡_}
+use mathlib.Core.Bool.{cond}
+use mathlib.Core.List.{List, _++_}
+use Prim.Native.Nat.{ℕ, suc, _-_, _^_, _≤_, _<_}
+use lib.Dec.{T, eqb}
+use lib.ListN.{length, drop, getD}
+use Rattle.codes.specs.Codes.{kindOf, Within, Holds}
+use Rattle.codes.specs.Choice.{size}
+use Rattle.tree.specs.declared.nodes.Levels.{Levels}
+use Rattle.tree.specs.Shape.{height}
+use Rattle.tree.specs.Lists.{ordered, smaller}
+use Rattle.tree.specs.Stored.{storedValues}
+use Rattle.tree.specs.Levels.{codeOf, levelValues}
+use Rattle.tree.specs.Walks.{found, toward, searchNodes, path}
+use Rattle.tree.specs.Promises.{Held}
+use Rattle.strip.specs.Lists.{upTo}
+use Rattle.strip.specs.Outcomes.{gives}
+use Rattle.strip.specs.Layout.{maxPins}
+use Rattle.strip.specs.Image.{image}
+use Rattle.strip.specs.Opening.{opening}
+use Rattle.strip.specs.Calls.{packAnswer, packOutput, timesIn, accessOf, searchOf, upToOf}
+
+-- 1 to 65,535 times of 32 bits, none less than the one before
+pub record Packable (xs : List ℕ) : Type 0 where
+  pub some : 1 ≤ length xs
+  pub few : length xs ≤ maxPins
+  pub times : Within 32 xs
+  pub in-order : T (ordered xs)
+
+-- 1. Given room, such a list packs, and to one and the same strip for every call: its image, whatever the output held and however
+-- long it is.
+pub record Packs (xs out : List ℕ) : Type 0 where
+  pub answer : packAnswer xs (length out) ≡ gives (length (image xs))
+  pub output : packOutput xs out ≡ image xs ++ drop (length (image xs)) out
+
+abbrev pub PacksOnce : Type 0
+PacksOnce = (xs out : List ℕ) → Packable xs → length (image xs) ≤ length out → Packs xs out
+
+-- 2. Opening the image succeeds. Its levels hold what the list's tree stores, each in the code with fewest bits among all that can
+-- hold it; among those with as many bits it has the least number, so a fixed code goes first, then the smaller b.
+pub record Opens (xs : List ℕ) (levels : Levels) : Type 0 where
+  pub opened : opening (image xs) ≡ gives levels
+  pub held : Held levels (image xs) xs
+  pub fewest : (l code : ℕ) → 1 ≤ l → l ≤ height (length xs) → Holds (kindOf code) (levelValues (storedValues xs) l)
+      → size (codeOf levels l) (levelValues (storedValues xs) l) ≤ size code (levelValues (storedValues xs) l)
+  pub on-tie : (l code : ℕ) → 1 ≤ l → l ≤ height (length xs) → Holds (kindOf code) (levelValues (storedValues xs) l)
+      → size code (levelValues (storedValues xs) l) ≡ size (codeOf levels l) (levelValues (storedValues xs) l) → codeOf levels l ≤ code
+
+abbrev pub ImageOpens : Type 0
+ImageOpens = (xs : List ℕ) → Packable xs → (levels : Levels) × Opens xs levels
+
+-- 3. On the image of a list, access at i gives time i. A search gives the number of strikes earlier than its target, and the nodes
+-- that it opens are those of its path. Up-to gives the number of strikes at or before its time.
+pub record Back (xs : List ℕ) : Type 0 where
+  pub access : (i : ℕ) → i < length xs → accessOf (image xs) i ≡ found (getD xs i 0) (length (toward (length xs) i))
+  pub search : (t : ℕ) → searchOf (image xs) t ≡ found (smaller t xs) (length (path xs t))
+  pub nodes : (t : ℕ) (levels : Levels) → opening (image xs) ≡ gives levels → searchNodes (levels .pins) (timesIn levels (image xs)) t ≡ path xs t
+  pub up-to : (t : ℕ) → t < 2 ^ 32 → upToOf (image xs) t ≡ found (upTo t xs) (cond (eqb t (2 ^ 32 - 1)) 0 (length (path xs (suc t))))
+
+abbrev pub RoundTrip : Type 0
+RoundTrip = (xs : List ℕ) → Packable xs → Back xs
