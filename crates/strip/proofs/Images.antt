@@ -1,30 +1,30 @@
 -- The image of values in node order, read again: opening it finds the plan by which it was written.
 use mathlib.Core.Path.{_≡_, refl, sym, ap, _∙_}
-use mathlib.Core.Bool.{Bool, true, false}
+use mathlib.Core.Bool.{false}
 use mathlib.Core.List.{List, [], _∷_, _++_, append-assoc}
 use Prim.Native.Nat.{ℕ, zero, suc, _+_, _-_, _*_, _/_, _%_, _^_, _≤_, _<_}
 use native.Mathlib.Nat.{add-zero, add-sub-cancel-left}
 use native.Mathlib.Omega.{arith}
-use lib.ListN.{length, take, drop, getD, length-append}
-use lib.Seq.{getD-drop, drop-at, take-at, drop-append-add}
-use borrow.Author.Tests.{le-ltb, ne-eqb, eq-eqb}
+use lib.ListN.{length, drop, getD, length-append}
+use lib.Seq.{getD-drop, drop-at, take-at}
+use borrow.Author.Tests.{le-ltb, ne-eqb}
 use Rattle.codes.specs.declared.kinds.Kind.{Kind}
 use Rattle.codes.specs.declared.kinds.Kind.the-variants.{Fixed, Chunked, Refused}
 use Rattle.codes.specs.Codes.{kindOf, Within, Holds}
 use Rattle.tree.specs.Shape.{height}
 use Rattle.tree.specs.Levels.{partOf}
 use Rattle.strip.specs.Outcomes.{Outcome, Test, gives, verdict, after}
-use Rattle.strip.specs.Layout.{header, twoAt, fourAt, fourBytes, pinsOf, codeAt, lengthAt, partsStart, endAfter, laidOut}
+use Rattle.strip.specs.Layout.{header, pinsOf, codeAt, lengthAt, partsStart, endAfter}
 use Rattle.strip.specs.Image.{valuesAt, codeFor, partFor, lengthFor, planned, entryFor, joined, stripOf}
 use Rattle.strip.specs.Opening.{headerTests, isRefused, codeTests, toldLength, lengthTest, levelTests, levelsIn, opening}
 use Rattle.strip.proofs.Verdicts.{verdict-passes}
 use Rattle.strip.proofs.Pieces.{joined-split, length-joined}
 use Rattle.strip.proofs.Layouts.{end-same, laid-same}
-use Rattle.strip.proofs.Plans.{plan-tall, plan-at, plan-pins, length-strip, parts-end, level-short, level-holds, length-chosen, size-small}
+use Rattle.strip.proofs.Plans.{plan-at, length-strip, parts-end, level-short, level-holds, length-chosen, size-small}
 use Rattle.strip.proofs.Openings.{length-agrees, opening-steps}
 
 -- a number of four bytes, read back
-pub four-back : (x : ℕ) → x < 2 ^ 32 → ((x / 2 ^ 16 / 2 ^ 8 % 2 ^ 8) * 2 ^ 8 + x / 2 ^ 16 % 2 ^ 8) * 2 ^ 16 + ((x / 2 ^ 8 % 2 ^ 8) * 2 ^ 8 + x % 2 ^ 8) ≡ x
+four-back : (x : ℕ) → x < 2 ^ 32 → ((x / 2 ^ 16 / 2 ^ 8 % 2 ^ 8) * 2 ^ 8 + x / 2 ^ 16 % 2 ^ 8) * 2 ^ 16 + ((x / 2 ^ 8 % 2 ^ 8) * 2 ^ 8 + x % 2 ^ 8) ≡ x
 four-back x h = omega arith
 
 -- a code that holds values is not refused
@@ -55,13 +55,14 @@ module _ (values : List ℕ) (some : 1 ≤ length values) (few : length values <
       let parts = joined (partFor values) h in
       let r = joined-split (entryFor values) d h l in
       let before = joined (entryFor values) d in
-      let len : length (header (length values) ++ before) ≡ 7 + 5 * d = rw (length-append (header (length values)) before, length-joined (entryFor values) 5 (λ i. refl) d) (omega arith) in
-      (r .0 ++ parts,
-      ap (λ (e : List ℕ). drop (7 + 5 * d) (header (length values) ++ e ++ parts)) (r .1)
-      ∙ ap (λ (e : List ℕ). drop (7 + 5 * d) (e ++ parts)) (sym (append-assoc (header (length values)) before (entryFor values d ++ r .0)))
-      ∙ ap (drop (7 + 5 * d)) (append-assoc (header (length values) ++ before) (entryFor values d ++ r .0) parts)
-      ∙ drop-at (header (length values) ++ before) (entryFor values d ++ r .0 ++ parts) (7 + 5 * d) len
-      ∙ append-assoc (entryFor values d) (r .0) parts)
+      let len : length (header (length values) ++ before) ≡ 7 + 5 * d = rw (length-append (header (length values)) before, length-joined (entryFor values) 5 (λ i. refl) d) (omega arith) in (
+        r .0 ++ parts,
+        ap (λ (e : List ℕ). drop (7 + 5 * d) (header (length values) ++ e ++ parts)) (r .1)
+            ∙ ap (λ (e : List ℕ). drop (7 + 5 * d) (e ++ parts)) (sym (append-assoc (header (length values)) before (entryFor values d ++ r .0)))
+            ∙ ap (drop (7 + 5 * d)) (append-assoc (header (length values) ++ before) (entryFor values d ++ r .0) parts)
+            ∙ drop-at (header (length values) ++ before) (entryFor values d ++ r .0 ++ parts) (7 + 5 * d) len
+            ∙ append-assoc (entryFor values d) (r .0) parts,
+      )
 
   byte-back : (d k : ℕ) (l : d < height (length values)) → getD (stripOf values) (7 + 5 * d + k) 0 ≡ getD (entryFor values d ++ from-entry d l .0) k 0
   byte-back d k l = sym (getD-drop (7 + 5 * d) (stripOf values) k 0) ∙ ap (λ (x : List ℕ). getD x k 0) (from-entry d l .1)
@@ -93,8 +94,11 @@ module _ (values : List ℕ) (some : 1 ≤ length values) (few : length values <
   unfolding verdict stripOf
   header-passes =
       let s = stripOf values in
-      rw (le-ltb (length s) 7 (omega (arith, length-strip values)), ne-eqb (pinsOf s) 0 (λ e. omega (arith, pins-back)),
-        le-ltb (length s) (partsStart (pinsOf s)) (rw pins-back (omega (arith, length-strip values))))
+      rw (
+        le-ltb (length s) 7 (omega (arith, length-strip values)),
+        ne-eqb (pinsOf s) 0 (λ e. omega (arith, pins-back)),
+        le-ltb (length s) (partsStart (pinsOf s)) (rw pins-back (omega (arith, length-strip values))),
+      )
 
   known : (i : ℕ) → i < height (pinsOf (stripOf values)) → isRefused (kindOf (codeAt (stripOf values) i)) ≡ false
   known i l =

@@ -1,29 +1,29 @@
 -- Where levels lie that follow each other: their entries, and that they fit the bytes that they fill.
-use mathlib.Core.Path.{_≡_, refl, sym, ap, _∙_}
+use mathlib.Core.Path.{_≡_, refl, _∙_}
 use mathlib.Core.List.{List}
-use Prim.Native.Nat.{ℕ, zero, suc, _+_, _-_, _^_, _≤_, _<_}
+use Prim.Native.Nat.{ℕ, zero, suc, _+_, _^_, _≤_, _<_}
 use native.Mathlib.Nat.{le-refl}
 use native.Mathlib.Decide.{decLt}
 use native.Mathlib.Numerals.{add-one}
 use native.Mathlib.Omega.{arith}
-use lib.ListN.{length, getD, replicate, set, length-set, length-replicate}
+use lib.ListN.{length, getD, replicate, set, length-set}
 use lib.Seq.{getD-set-same, getD-set-other}
 use Rattle.tree.specs.declared.nodes.Levels.{Levels}
 use Rattle.tree.specs.Shape.{height}
 use Rattle.tree.specs.Levels.{Fits}
 use Rattle.strip.specs.Layout.{partsStart, endAfter, codesOf, endsOf, laidOut}
 
-pub length-codes : (code : ℕ → ℕ) (d : ℕ) → length (codesOf code d) ≡ 16
+length-codes : (code : ℕ → ℕ) (d : ℕ) → length (codesOf code d) ≡ 16
 unfolding codesOf
 length-codes code zero = refl
 length-codes code (suc d) = length-set (codesOf code d) d (code d) ∙ length-codes code d
 
-pub length-ends : (start : ℕ) (len : ℕ → ℕ) (d : ℕ) → length (endsOf start len d) ≡ 17
+length-ends : (start : ℕ) (len : ℕ → ℕ) (d : ℕ) → length (endsOf start len d) ≡ 17
 unfolding endsOf
 length-ends start len zero = refl
 length-ends start len (suc d) = length-set (endsOf start len d) (suc d) (endAfter start len (suc d)) ∙ length-ends start len d
 
-pub getD-codes : (code : ℕ → ℕ) (d i : ℕ) → i < d → d ≤ 16 → getD (codesOf code d) i 0 ≡ code i
+getD-codes : (code : ℕ → ℕ) (d i : ℕ) → i < d → d ≤ 16 → getD (codesOf code d) i 0 ≡ code i
 unfolding codesOf
 getD-codes code zero i h k = absurd (omega arith)
 getD-codes code (suc d) i h k = elim (decLt i d) [
@@ -31,14 +31,14 @@ getD-codes code (suc d) i h k = elim (decLt i d) [
   | no n ↦ let e : i ≡ d = omega arith in rw e (getD-set-same (codesOf code d) d (code d) 0 (omega (arith, length-codes code d)))
 ]
 
-pub getD-ends : (start : ℕ) (len : ℕ → ℕ) (d i : ℕ) → i ≤ d → d ≤ 16 → getD (endsOf start len d) i 0 ≡ endAfter start len i
+getD-ends : (start : ℕ) (len : ℕ → ℕ) (d i : ℕ) → i ≤ d → d ≤ 16 → getD (endsOf start len d) i 0 ≡ endAfter start len i
 unfolding endsOf endAfter
 getD-ends start len zero i h k = let z : i ≡ 0 = omega arith in rw z
 getD-ends start len (suc d) i h k = elim (decLt i (suc d)) [
   | yes l ↦ getD-set-other (endsOf start len d) (suc d) i (endAfter start len (suc d)) 0 (omega arith) ∙ getD-ends start len d i (omega arith) (omega arith)
   | no n ↦
-    let e : i ≡ suc d = omega arith in
-    rw e (getD-set-same (endsOf start len d) (suc d) (endAfter start len (suc d)) 0 (omega (arith, length-ends start len d)))
+      let e : i ≡ suc d = omega arith in
+      rw e (getD-set-same (endsOf start len d) (suc d) (endAfter start len (suc d)) 0 (omega (arith, length-ends start len d)))
 ]
 
 pub end-next : (start : ℕ) (len : ℕ → ℕ) (d : ℕ) → endAfter start len (suc d) ≡ endAfter start len d + len d
@@ -49,7 +49,7 @@ pub end-start : (start : ℕ) (len : ℕ → ℕ) → endAfter start len 0 ≡ s
 unfolding endAfter
 end-start start len = refl
 
-pub end-mono : (start : ℕ) (len : ℕ → ℕ) (d e : ℕ) → d ≤ e → endAfter start len d ≤ endAfter start len e
+end-mono : (start : ℕ) (len : ℕ → ℕ) (d e : ℕ) → d ≤ e → endAfter start len d ≤ endAfter start len e
 unfolding endAfter
 end-mono start len d zero h = let z : d ≡ 0 = omega arith in rw z (le-refl start)
 end-mono start len d (suc e) h = elim (decLt d (suc e)) [

@@ -3,6 +3,7 @@ pub mod Counts
 pub mod Falls
 pub mod Images
 pub mod Layouts
+pub mod Marked
 pub mod Openings
 pub mod Pieces
 pub mod Plans

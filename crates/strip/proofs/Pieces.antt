@@ -1,6 +1,6 @@
 -- Bytes written one after the other, and found again.
 use mathlib.Core.Path.{_≡_, refl, sym, ap, _∙_}
-use mathlib.Core.List.{List, [], _∷_, _++_, append-assoc, append-nil}
+use mathlib.Core.List.{List, [], _++_, append-assoc, append-nil}
 use Prim.Native.Nat.{ℕ, zero, suc, _+_, _-_, _*_, _≤_, _<_}
 use native.Mathlib.Nat.{add-zero, mul-zero, mul-suc}
 use native.Mathlib.Decide.{decLt}
@@ -20,9 +20,11 @@ joined-split bytes d zero h = absurd (omega arith)
 joined-split bytes d (suc e) h = elim (decLt d e) [
   | no n ↦ let q : d ≡ e = omega arith in ([], rw q (ap (λ (l : List ℕ). joined bytes e ++ l) (sym (append-nil (bytes e)))))
   | yes l ↦
-    let r = joined-split bytes d e l in
-    (r .0 ++ bytes e, ap (λ (l : List ℕ). l ++ bytes e) (r .1) ∙ append-assoc (joined bytes d) (bytes d ++ r .0) (bytes e)
-    ∙ ap (λ (l : List ℕ). joined bytes d ++ l) (append-assoc (bytes d) (r .0) (bytes e)))
+      let r = joined-split bytes d e l in (
+        r .0 ++ bytes e,
+        ap (λ (l : List ℕ). l ++ bytes e) (r .1) ∙ append-assoc (joined bytes d) (bytes d ++ r .0) (bytes e)
+            ∙ ap (λ (l : List ℕ). joined bytes d ++ l) (append-assoc (bytes d) (r .0) (bytes e)),
+      )
 ]
 
 pub joined-same : (f g : ℕ → List ℕ) (d : ℕ) → ((i : ℕ) → i < d → f i ≡ g i) → joined f d ≡ joined g d
@@ -56,8 +58,15 @@ replaced-more out a b p q e h =
     let whole : replaced out a p ≡ front ++ drop b out = rw e in
     let len : length front ≡ b = rw (length-append (take a out) p, length-take-le a out (omega arith)) e in
     let far : b + length q ≡ a + length (p ++ q) = rw (length-append p q) (omega arith) in
-    rw (whole, take-at front (drop b out) b len, ← (drop-drop (length q) b (front ++ drop b out)), drop-at front (drop b out) b len, drop-drop (length q) b out,
-      append-assoc (take a out) p q, far)
+    rw (
+      whole,
+      take-at front (drop b out) b len,
+      ← (drop-drop (length q) b (front ++ drop b out)),
+      drop-at front (drop b out) b len,
+      drop-drop (length q) b out,
+      append-assoc (take a out) p q,
+      far,
+    )
 
 pub replaced-none : (out : List ℕ) (a : ℕ) → replaced out a [] ≡ out
 replaced-none out a = rw (append-nil (take a out), add-zero a) (take-append-drop a out)

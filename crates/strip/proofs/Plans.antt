@@ -15,7 +15,7 @@ use Rattle.codes.proofs.Promises.{lengths, best-choice}
 use Rattle.tree.specs.declared.nodes.Levels.{Levels}
 use Rattle.tree.specs.Shape.{height}
 use Rattle.tree.specs.Levels.{levelValues, firstOf, countOf}
-use Rattle.tree.proofs.Promises.{height-least, stored-levels}
+use Rattle.tree.proofs.Promises.{height-least}
 use Rattle.strip.specs.Layout.{header, partsStart, endAfter}
 use Rattle.strip.specs.Image.{valuesAt, codeFor, partFor, lengthFor, planned, entryFor, joined, stripOf}
 use Rattle.strip.specs.Written.{replaced, entryIn}
@@ -74,7 +74,7 @@ module _ (values : List ℕ) (few : length values < 2 ^ 16) where
   plan-at = laid-at (length values) (codeFor values) (lengthFor values) plan-tall
 
   -- so the entries that tell where they lie are those of the image
-  pub plan-entry : (d : ℕ) → d < height (length values) → entryIn (planned values) d ≡ entryFor values d
+  plan-entry : (d : ℕ) → d < height (length values) → entryIn (planned values) d ≡ entryFor values d
   plan-entry d h =
       let k = plan-at d h in
       rw (k .code-is, k .starts, k .ends-at, add-sub-cancel-left (endAfter (partsStart (length values)) (lengthFor values) d) (lengthFor values d))

@@ -1,11 +1,11 @@
 -- The promises of specs/Promises.
 use mathlib.Core.Path.{_≡_, refl, sym, ap, _∙_}
-use mathlib.Core.Bool.{Bool, true, false, cond}
+use mathlib.Core.Bool.{Bool, true, false}
 use mathlib.Core.List.{List}
 use Prim.Native.Nat.{ℕ, suc, _-_, _^_, _≤_, _<_}
 use native.Mathlib.Decide.{decLt}
 use native.Mathlib.Omega.{arith}
-use lib.Dec.{T, eqb}
+use lib.Dec.{T}
 use lib.ListN.{length}
 use borrow.Author.Tests.{lt-ltb, le-ltb, eq-eqb, ne-eqb}
 use Rattle.codes.specs.Codes.{kindOf, part, Within, Holds}
@@ -15,11 +15,10 @@ use Rattle.tree.specs.declared.nodes.Levels.{Levels}
 use Rattle.tree.specs.Shape.{height}
 use Rattle.tree.specs.Lists.{ordered}
 use Rattle.tree.specs.Stored.{storedValues}
-use Rattle.tree.specs.Levels.{codeOf, partOf, levelValues, Stores}
-use Rattle.tree.specs.Walks.{found, searchAnswer, path}
+use Rattle.tree.specs.Levels.{codeOf, partOf, levelValues}
 use Rattle.tree.specs.Promises.{Held}
 use Rattle.tree.proofs.Promises.{stored-levels, contents, search-finds}
-use Rattle.strip.specs.Outcomes.{Outcome, gives, refuses, verdict, walked}
+use Rattle.strip.specs.Outcomes.{Outcome, gives, refuses, verdict}
 use Rattle.strip.specs.Layout.{maxPins}
 use Rattle.strip.specs.Image.{valuesAt, codeFor, partFor, planned, image}
 use Rattle.strip.specs.Opening.{opening}

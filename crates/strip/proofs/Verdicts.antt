@@ -3,7 +3,7 @@ use mathlib.Core.Path.{_≡_, refl}
 use mathlib.Core.Bool.{Bool, true, false}
 use mathlib.Core.List.{List, [], _∷_, _++_}
 use Prim.Native.Nat.{ℕ}
-use Rattle.strip.specs.Outcomes.{Outcome, gives, refuses, Test, test, verdict, after}
+use Rattle.strip.specs.Outcomes.{refuses, Test, test, verdict, after}
 
 module _ {A : Type 0} (r c : ℕ) (ts : List Test) (a : A) where
   pub verdict-holds : (b : Bool) → b ≡ true → verdict (test b r c ∷ ts) a ≡ refuses r c

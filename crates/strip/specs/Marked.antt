@@ -76,26 +76,36 @@ marked =
     ∷ accesses (strip 1 (1 ∷ 0x00 ∷ 0x00 ∷ 0x00 ∷ 0x00 ∷ [])) 0 (stopped 9 1) ∷ searches low 0 (stopped 10 2)
     ∷ []
 
-abbrev given : Outcome ℕ → Outcome ℕ → Bool
+-- what a case says; `marked-says` in proofs/Marked has it of each entry
+abbrev pub Says : Case → Type 0
+Says (packs xs out r after) = (packAnswer xs (length out) ≡ r) × (packOutput xs out ≡ after)
+Says (accesses s i r) = accessOf s i ≡ r
+Says (searches s t r) = searchOf s t ≡ r
+Says (counts s t r) = upToOf s t ≡ r
+Says (root n p) = rootPlace n ≡ p
+
+-- ---- as a test that is computed
+
+abbrev pub given : Outcome ℕ → Outcome ℕ → Bool
 given (gives x) (gives y) = eqb x y
 given (gives x) (refuses r c) = false
 given (refuses r c) (gives y) = false
 given (refuses r c) (refuses q d) = eqb r q && eqb c d
 
-abbrev is : Answer → Answer → Bool
+abbrev pub is : Answer → Answer → Bool
 is (found x k) (found y l) = eqb x y && eqb k l
 is (found x k) (stopped r c) = false
 is (stopped r c) (found y l) = false
 is (stopped r c) (stopped q d) = eqb r q && eqb c d
 
-abbrev passes : Case → Bool
+abbrev pub passes : Case → Bool
 passes (packs xs out r after) = given (packAnswer xs (length out)) r && same (packOutput xs out) after
 passes (accesses s i r) = is (accessOf s i) r
 passes (searches s t r) = is (searchOf s t) r
 passes (counts s t r) = is (upToOf s t) r
 passes (root n p) = eqb (rootPlace n) p
 
-abbrev all : List Case → Bool
+abbrev pub all : List Case → Bool
 all [] = true
 all (c ∷ cs) = passes c && all cs
 

@@ -2,6 +2,7 @@
 use super::numbers::four_at;
 use super::numbers::two_at;
 use super::refusals::Refusal;
+use super::strip::Strip;
 use codes::Kind;
 use tree::Levels;
 ghost use mathlib.Core.Path.{_≡_};
@@ -83,8 +84,8 @@ fn levels_of(s: &[u8], n: usize) -> Opening
     let mut end = 7 + 5 * h;
     let mut levels = Levels {
         pins: n,
-        codes: [0; 16],
-        ends: [0; 17],
+        codes: [0; Strip::MAX_HEIGHT],
+        ends: [0; Strip::MAX_HEIGHT + 1],
     };
     levels.ends[0] = end;
     let mut d: usize = 0;
@@ -125,8 +126,8 @@ pub(crate) fn opening_of(s: &[u8]) -> Opening
             status: Status::Refused(r),
             levels: Levels {
                 pins: 0,
-                codes: [0; 16],
-                ends: [0; 17],
+                codes: [0; Strip::MAX_HEIGHT],
+                ends: [0; Strip::MAX_HEIGHT + 1],
             },
         },
     }

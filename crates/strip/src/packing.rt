@@ -1,6 +1,7 @@
 // The image of a list, level by level.
 use super::refusals::Refusal;
 use super::strip::Packed;
+use super::strip::Strip;
 use tree::Levels;
 ghost use mathlib.Core.Path.{_≡_};
 ghost use mathlib.Core.List.{_∷_, _++_};
@@ -41,8 +42,8 @@ fn plan(values: &[u32]) -> Levels
     let mut end = 7 + 5 * h;
     let mut levels = Levels {
         pins: n,
-        codes: [0; 16],
-        ends: [0; 17],
+        codes: [0; Strip::MAX_HEIGHT],
+        ends: [0; Strip::MAX_HEIGHT + 1],
     };
     levels.ends[0] = end;
     let mut d: usize = 0;
@@ -111,7 +112,12 @@ fn put_parts(out: &mut [u8], work: &mut [u32], values: &[u32], levels: Levels)
     while d < h {
         let start = levels.ends[d];
         let code = levels.codes[d];
-        codes::encode(&mut out[start..], work, tree::level_values(values, d + 1), code);
+        codes::encode(
+            &mut out[start..],
+            work,
+            tree::level_values(values, d + 1),
+            code,
+        );
         d += 1;
     }
 }
@@ -150,8 +156,8 @@ pub(crate) fn pack_list(out: &mut [u8], times: &[u32]) -> Packed
     ensures { λ r. ⌜ now (out .exit) ≡ written (roomed (length (now (out .entry))) (image (now (times .entry)))) (image (now (times .entry))) (now (out .entry)) ⌝ }
 {
     let n = times.len();
-    let mut values = [0u32; 65535];
-    let mut work = [0u32; 32768];
+    let mut values = [0u32; Strip::MAX_PINS];
+    let mut work = [0u32; Strip::MAX_PINS / 2 + 1];
     tree::construct(&mut values, times);
     pack_values(out, &mut work, &values[..n])
 }

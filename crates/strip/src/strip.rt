@@ -66,6 +66,7 @@ fn search_open(s: &[u8], levels: Levels, target: u32) -> Searched
 impl Strip {
     // The greatest pin count and the greatest height.
     pub const MAX_PINS: usize = 65535;
+
     pub const MAX_HEIGHT: usize = 16;
 
     // The height of n pins.

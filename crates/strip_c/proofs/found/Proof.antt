@@ -1,5 +1,4 @@
 -- `found` meets its contract.
-use native.Mathlib.Omega.{arith}
 use mathlib.Core.Path.{sym, ap, _∙_}
 use Rattle.strip.specs.Calls.{searched}
 use Rattle.strip_c.specs.Numbers.{ofWalk}

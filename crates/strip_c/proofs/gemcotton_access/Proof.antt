@@ -1,5 +1,4 @@
 -- `gemcotton_access` meets its contract.
-use native.Mathlib.Omega.{arith}
 use mathlib.Core.Path.{sym, ap, _∙_}
 use Rattle.strip.specs.Calls.{accessed}
 use Rattle.strip_c.specs.Numbers.{ofWalk}

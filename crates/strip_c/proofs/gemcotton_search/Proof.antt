@@ -1,5 +1,4 @@
 -- `gemcotton_search` meets its contract.
-use native.Mathlib.Omega.{arith}
 use mathlib.Core.Path.{ap, _∙_}
 use Rattle.strip_c.specs.Numbers.{ofWalk}
 use borrow.Author.Needs.{needs}

@@ -1,5 +1,4 @@
 -- `refused` meets its contract.
-use native.Mathlib.Omega.{arith}
 use mathlib.Core.Path.{sym, ap, _∙_}
 use Rattle.strip_c.specs.Numbers.{ofRefusal}
 use borrow.Author.Needs.{needs}

@@ -1,5 +1,4 @@
 -- `is_refused` meets its contract.
-use native.Mathlib.Omega.{arith}
 use mathlib.Core.Path.{sym, ap, _∙_}
 use Rattle.strip.specs.Opening.{isRefused}
 use borrow.Author.Needs.{needs}

@@ -146,9 +146,10 @@ returns-3 c =
     let e = at-end s n h (l .d) (l .end) (c .before .before .before .before .before .pre .0) (c .before .before .before .height .ensures) (omega arith) (l .inv .3) in
     let t = codes-end s (lengthTest s ∷ []) (levelsIn s) (h - l .d) (l .d) (omega arith) in
     let all : l .levels ≡ laidOut n (codeAt s) (lengthAt s) =
-    l .inv .4 ∙ ap (entered n (codeAt s) (lengthAt s)) (omega (arith, c .before .before .before .height .ensures)) ∙ entered-all n (codeAt s) (lengthAt s) in
-    (rw (all, c .before .before .before .before .before .pre .0) (sym (l .inv .6 ∙ t ∙ length-agrees s (levelsIn s) (omega (arith, e)))),
-    rw all (laid-fits n (codeAt s) (lengthAt s) (omega arith) s (λ k m. l .inv .5 k (omega arith)) (rw (c .before .before .before .before .before .pre .0) (omega (arith, e)))))
+    l .inv .4 ∙ ap (entered n (codeAt s) (lengthAt s)) (omega (arith, c .before .before .before .height .ensures)) ∙ entered-all n (codeAt s) (lengthAt s) in (
+      rw (all, c .before .before .before .before .before .pre .0) (sym (l .inv .6 ∙ t ∙ length-agrees s (levelsIn s) (omega (arith, e)))),
+      rw all (laid-fits n (codeAt s) (lengthAt s) (omega arith) s (λ k m. l .inv .5 k (omega arith)) (rw (c .before .before .before .before .before .pre .0) (omega (arith, e)))),
+    )
 
 pub levels-of-spec : {M : Type 1} → statement M
 levels-of-spec =

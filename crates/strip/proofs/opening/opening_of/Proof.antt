@@ -1,5 +1,4 @@
 -- `opening_of` meets its contract.
-use native.Mathlib.Omega.{arith}
 use mathlib.Core.Path.{_≡_, sym, ap, _∙_}
 use Prim.Native.Nat.{ℕ}
 use Rattle.strip.specs.Outcomes.{Outcome, gives, verdict, after}

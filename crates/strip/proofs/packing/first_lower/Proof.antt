@@ -1,8 +1,8 @@
 -- `first_lower` meets its contract.
 use native.Mathlib.Omega.{arith}
-use mathlib.Core.Path.{_≡_, refl}
+use mathlib.Core.Path.{_≡_}
 use Prim.Native.Nat.{suc, _+_, _-_, _≤_, max}
-use lib.ListN.{length, drop}
+use lib.ListN.{drop}
 use Rattle.strip.specs.Lists.{firstLower}
 use Rattle.strip.proofs.Falls.{falls-here, falls-later, falls-end}
 use Rattle.strip.proofs.packing.first_lower.Statement.{statement}

@@ -1,7 +1,7 @@
 -- `plan` meets its contract.
 use native.Mathlib.Omega.{arith}
-use mathlib.Core.Path.{_≡_, refl, sym, ap, _∙_}
-use Prim.Native.Nat.{ℕ, suc, _+_, _-_, _*_, _/_, _^_, _≤_}
+use mathlib.Core.Path.{_≡_, sym, ap, _∙_}
+use Prim.Native.Nat.{suc, _+_, _-_, _*_, _/_, _^_, _≤_}
 use lib.ListN.{length}
 use Rattle.codes.specs.declared.choosing.Choice.{Choice}
 use Rattle.codes.specs.Codes.{Within}
@@ -9,7 +9,7 @@ use Rattle.codes.specs.Choice.{chosen}
 use Rattle.tree.proofs.Promises.{height-least}
 use Rattle.strip.specs.Layout.{partsStart, endAfter}
 use Rattle.strip.specs.Image.{valuesAt, codeFor, lengthFor}
-use Rattle.strip.proofs.Layouts.{entered, entered-none, entered-next, entered-all, end-start, end-next, length-codes, length-ends}
+use Rattle.strip.proofs.Layouts.{entered, entered-none, entered-next, entered-all, end-start, end-next}
 use Rattle.strip.proofs.Plans.{level-next, level-short, level-code, length-chosen, size-small}
 use Rattle.strip.proofs.packing.plan.Statement.{statement}
 use Rattle.strip.proofs.packing.plan.Tie as tie

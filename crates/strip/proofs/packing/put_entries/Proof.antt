@@ -67,7 +67,7 @@ loop-again c =
       omega arith,
       omega arith,
       c .before .before .put-entry .ensures ∙ ap (λ o. sets o (7 + 5 * l .d) (entryIn (a .t2) (l .d))) (l .inv .2)
-      ∙ entries-next (a .t2) (a .out .now) (l .d) (omega arith),
+          ∙ entries-next (a .t2) (a .out .now) (l .d) (omega arith),
     )
 
 same-length : tie.Need-same-length Inv-loop μ-loop

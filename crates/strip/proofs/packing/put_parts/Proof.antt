@@ -2,8 +2,7 @@
 use native.Mathlib.Omega.{arith}
 use mathlib.Core.Path.{_≡_, refl, sym, ap, _∙_}
 use mathlib.Core.List.{List, _++_}
-use Prim.Native.Nat.{ℕ, suc, _+_, _-_, _*_, _≤_}
-use native.Mathlib.Numerals.{add-one}
+use Prim.Native.Nat.{ℕ, suc, _-_, _≤_}
 use lib.ListN.{length, drop, getD}
 use borrow.Rule.Slice.PartMut.{midOf, putMid}
 use Rattle.codes.specs.Codes.{part, Within}
@@ -83,9 +82,10 @@ encode-requires c κs =
     let d = l .d in
     let k = plan-spot values (p .0) (a .t4) (p .2) d (omega arith) in
     let e = c .level-values .ensures in
-    let q = k .part-is _ e in
-    (rw (k .code-is, e, level-next values d) (level-holds values (l .inv .3) d),
-    (rw (q, length-lent (l .out) (getD (a .t4 .ends) d 0)) (omega (arith, k .room)), rw (e, level-next values d) (omega (arith, stored-levels .half values (suc d)))))
+    let q = k .part-is _ e in (
+      rw (k .code-is, e, level-next values d) (level-holds values (l .inv .3) d),
+      (rw (q, length-lent (l .out) (getD (a .t4 .ends) d 0)) (omega (arith, k .room)), rw (e, level-next values d) (omega (arith, stored-levels .half values (suc d)))),
+    )
 
 add-d : tie.Need-add-d Inv-loop μ-loop
 add-d c = omega arith
@@ -119,8 +119,8 @@ loop-again c =
       ap length now ∙ length-replaced (l .out) at (partFor values d) (omega (arith, k .room)) ∙ l .inv .4,
       omega arith,
       now ∙ ap (λ (o : List ℕ). replaced o at (partFor values d)) (l .inv .6)
-      ∙ replaced-more (a .out .now) start at before (partFor values d) (sym (k .starts)) (omega (arith, k .room))
-      ∙ ap (replaced (a .out .now) start) (sym (joined-next (partFor values) d)),
+          ∙ replaced-more (a .out .now) start at before (partFor values d) (sym (k .starts)) (omega (arith, k .room))
+          ∙ ap (replaced (a .out .now) start) (sym (joined-next (partFor values) d)),
     )
 
 same-length : tie.Need-same-length Inv-loop μ-loop

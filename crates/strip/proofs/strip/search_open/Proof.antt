@@ -1,5 +1,4 @@
 -- `search_open` meets its contract.
-use native.Mathlib.Omega.{arith}
 use mathlib.Core.Path.{sym, ap, _∙_}
 use Rattle.tree.specs.Walks.{searched}
 use borrow.Author.Needs.{needs}

@@ -1,5 +1,4 @@
 -- `access` meets its contract.
-use native.Mathlib.Omega.{arith}
 use Rattle.strip.specs.Calls.{accessOf}
 use Rattle.strip.proofs.Openings.{opening-is}
 use borrow.Author.Needs.{needs}

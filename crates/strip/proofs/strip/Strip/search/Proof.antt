@@ -1,5 +1,4 @@
 -- `search` meets its contract.
-use native.Mathlib.Omega.{arith}
 use Rattle.strip.specs.Calls.{searchOf}
 use Rattle.strip.proofs.Openings.{opening-is}
 use borrow.Author.Needs.{needs}

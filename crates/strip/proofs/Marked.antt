@@ -1,0 +1,53 @@
+-- Each entry of the table of marked cases holds, since the test of them all computes to true.
+use mathlib.Core.Path.{_≡_, refl}
+use mathlib.Core.Bool.{Bool, true, false, _&&_}
+use mathlib.Core.List.{List, [], _∷_}
+use Prim.Native.Nat.{ℕ, zero, suc, _<_}
+use native.Mathlib.Omega.{arith}
+use lib.Dec.{T, eqb, eqb→eq}
+use lib.ListN.{length, getD}
+use Rattle.codes.specs.Marked.{same}
+use Rattle.tree.specs.Shape.{rootPlace}
+use Rattle.tree.specs.Walks.{Answer, found, stopped}
+use Rattle.strip.specs.Outcomes.{Outcome, gives, refuses}
+use Rattle.strip.specs.Calls.{packAnswer, packOutput, accessOf, searchOf, upToOf}
+use Rattle.strip.specs.Marked.{Case, packs, accesses, searches, counts, root, Says, given, is, passes, all, marked, marked-pass}
+
+both : (a b : Bool) → T (a && b) → T a × T b
+both true b h = (tt, h)
+both false b h = absurd h
+
+same-lists : (xs ys : List ℕ) → T (same xs ys) → xs ≡ ys
+same-lists [] [] h = refl
+same-lists [] (y ∷ ys) h = absurd h
+same-lists (x ∷ xs) [] h = absurd h
+same-lists (x ∷ xs) (y ∷ ys) h = let b = both (eqb x y) (same xs ys) h in rw (eqb→eq x y (b .0), same-lists xs ys (b .1))
+
+same-outcomes : (a b : Outcome ℕ) → T (given a b) → a ≡ b
+same-outcomes (gives x) (gives y) h = rw (eqb→eq x y h)
+same-outcomes (gives x) (refuses r c) h = absurd h
+same-outcomes (refuses r c) (gives y) h = absurd h
+same-outcomes (refuses r c) (refuses q d) h = let b = both (eqb r q) (eqb c d) h in rw (eqb→eq r q (b .0), eqb→eq c d (b .1))
+
+same-answers : (a b : Answer) → T (is a b) → a ≡ b
+same-answers (found x k) (found y l) h = let b = both (eqb x y) (eqb k l) h in rw (eqb→eq x y (b .0), eqb→eq k l (b .1))
+same-answers (found x k) (stopped r c) h = absurd h
+same-answers (stopped r c) (found y l) h = absurd h
+same-answers (stopped r c) (stopped q d) h = let b = both (eqb r q) (eqb c d) h in rw (eqb→eq r q (b .0), eqb→eq c d (b .1))
+
+says : (c : Case) → T (passes c) → Says c
+says (packs xs out r after) h =
+    let b = both (given (packAnswer xs (length out)) r) (same (packOutput xs out) after) h in
+    (same-outcomes (packAnswer xs (length out)) r (b .0), same-lists (packOutput xs out) after (b .1))
+says (accesses s i r) h = same-answers (accessOf s i) r h
+says (searches s t r) h = same-answers (searchOf s t) r h
+says (counts s t r) h = same-answers (upToOf s t) r h
+says (root n p) h = eqb→eq (rootPlace n) p h
+
+each : (cs : List Case) → T (all cs) → (i : ℕ) → i < length cs → Says (getD cs i (root 1 1))
+each [] h i l = absurd (omega arith)
+each (c ∷ cs) h zero l = says c (both (passes c) (all cs) h .0)
+each (c ∷ cs) h (suc i) l = each cs (both (passes c) (all cs) h .1) i (omega arith)
+
+pub marked-says : (i : ℕ) → i < length marked → Says (getD marked i (root 1 1))
+marked-says = each marked (rw marked-pass tt)
