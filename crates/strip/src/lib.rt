@@ -1,9 +1,11 @@
 // Pin strips: their bytes, and the calls on them.
+mod lists; // lists of times
 mod numbers; // numbers of several bytes
 mod opening; // the tests that every reading call makes first, and where the levels lie
-mod packing; // the image of a list
+mod packing; // the plan of an image, and whether there is room for it
 mod refusals; // why a call is refused
 mod strip; // the strip type, with the calls
+mod writing; // the image's bytes
 
 pub use refusals::Refusal;
 pub use strip::Accessed;

@@ -1,7 +1,7 @@
 // The strip type, with the calls. None requires anything.
+use super::lists::first_lower;
 use super::opening::Status;
 use super::opening::opening_of;
-use super::packing::first_lower;
 use super::packing::pack_list;
 use super::refusals::Refusal;
 use super::refusals::of_walk;

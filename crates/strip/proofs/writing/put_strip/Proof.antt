@@ -10,8 +10,8 @@ use Rattle.strip.specs.Image.{partFor, joined}
 use Rattle.strip.specs.Written.{replaced, entryIn}
 use Rattle.strip.proofs.Plans.{plan-pins, plan-tall, plan-at, length-strip, strip-written}
 use borrow.Author.Needs.{needs}
-use Rattle.strip.proofs.packing.put_strip.Statement.{statement}
-use Rattle.strip.proofs.packing.put_strip.Tie as tie
+use Rattle.strip.proofs.writing.put_strip.Statement.{statement}
+use Rattle.strip.proofs.writing.put_strip.Tie as tie
 
 put-header-requires : tie.Need-put-header-requires
 put-header-requires c κs = omega (arith, length-strip (c .before .before .before .before .args .values .now))

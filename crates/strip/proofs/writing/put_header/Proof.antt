@@ -2,8 +2,8 @@
 use native.Mathlib.Omega.{arith}
 use lib.ListN.{length-set}
 use borrow.Author.Needs.{needs}
-use Rattle.strip.proofs.packing.put_header.Statement.{statement}
-use Rattle.strip.proofs.packing.put_header.Tie as tie
+use Rattle.strip.proofs.writing.put_header.Statement.{statement}
+use Rattle.strip.proofs.writing.put_header.Tie as tie
 
 slice-write-out : tie.Need-slice-write-out
 slice-write-out c = search needs

@@ -13,8 +13,8 @@ use Rattle.strip.specs.Image.{partFor, joined}
 use Rattle.strip.specs.Written.{replaced}
 use Rattle.strip.proofs.Plans.{plan-tall, plan-pins, plan-spot, level-next, level-holds}
 use Rattle.strip.proofs.Pieces.{replaced-none, replaced-more, length-replaced, joined-next, length-lent, lent-written}
-use Rattle.strip.proofs.packing.put_parts.Statement.{statement}
-use Rattle.strip.proofs.packing.put_parts.Tie as tie
+use Rattle.strip.proofs.writing.put_parts.Statement.{statement}
+use Rattle.strip.proofs.writing.put_parts.Tie as tie
 
 abbrev Inv-loop : tie.InvT-loop
 Inv-loop out₀ work₀ values levels h d₀ out work d =

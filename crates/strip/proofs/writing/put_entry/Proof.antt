@@ -4,8 +4,8 @@ use mathlib.Core.Path.{_≡_}
 use Prim.Native.Nat.{suc, _+_}
 use lib.ListN.{length-set}
 use borrow.Author.Needs.{needs}
-use Rattle.strip.proofs.packing.put_entry.Statement.{statement}
-use Rattle.strip.proofs.packing.put_entry.Tie as tie
+use Rattle.strip.proofs.writing.put_entry.Statement.{statement}
+use Rattle.strip.proofs.writing.put_entry.Tie as tie
 
 slice-write-out : tie.Need-slice-write-out
 slice-write-out c = search needs

@@ -5,8 +5,8 @@ use Prim.Native.Nat.{suc, _+_, _-_, _≤_, max}
 use lib.ListN.{drop}
 use Rattle.strip.specs.Lists.{firstLower}
 use Rattle.strip.proofs.Falls.{falls-here, falls-later, falls-end}
-use Rattle.strip.proofs.packing.first_lower.Statement.{statement}
-use Rattle.strip.proofs.packing.first_lower.Tie as tie
+use Rattle.strip.proofs.lists.first_lower.Statement.{statement}
+use Rattle.strip.proofs.lists.first_lower.Tie as tie
 
 abbrev Inv-loop : tie.InvT-loop
 Inv-loop times n i₀ i = (1 ≤ i) × (i ≤ max n 1) × (firstLower times ≡ i - 1 + firstLower (drop (i - 1) times))

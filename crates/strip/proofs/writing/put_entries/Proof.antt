@@ -8,8 +8,8 @@ use Rattle.tree.specs.Shape.{height}
 use Rattle.strip.specs.Image.{joined}
 use Rattle.strip.specs.Written.{replaced, entryIn}
 use Rattle.strip.proofs.Pieces.{replaced-none, entries-next}
-use Rattle.strip.proofs.packing.put_entries.Statement.{statement}
-use Rattle.strip.proofs.packing.put_entries.Tie as tie
+use Rattle.strip.proofs.writing.put_entries.Statement.{statement}
+use Rattle.strip.proofs.writing.put_entries.Tie as tie
 
 abbrev Inv-loop : tie.InvT-loop
 Inv-loop out₀ levels h d₀ out d = (d ≤ h) × (length out ≡ length out₀) × (out ≡ replaced out₀ 7 (joined (entryIn levels) d))
