@@ -4,8 +4,8 @@
  * and length: every call answers on any input, and none needs the answer of another.
  *
  * Memory: a pointer and the length after it, in entries, name what is lent. A pointer is not null, even where its length is 0,
- * and what is written overlaps nothing else that is lent. No call keeps a pointer. A call writes only where its comment says
- * so, and nothing at a refusal.
+ * and what is written overlaps nothing else that is lent. No call keeps a pointer or uses a heap. A call writes only where its
+ * comment says so, and nothing at a refusal.
  */
 #ifndef GEMCOTTON_H
 #define GEMCOTTON_H
@@ -51,7 +51,7 @@ size_t gemcotton_height(size_t n);
 size_t gemcotton_root_place(size_t n);
 
 /* Packs the list into the front of `out`, whose later bytes keep their content. Gives the strip's length in bytes; no nodes.
- * Refused, in this order: 1, 2, 3, 4. */
+ * Refused, in this order: 1, 2, 3, 4. It takes 400 KiB of the stack, however short the list. */
 struct gemcotton_answer gemcotton_pack(uint8_t *out, size_t out_length, const uint32_t *times, size_t times_length);
 
 /* The reading calls open the strip first, refused in this order: 5, 6, 7, 1, 5, 8, 13. */

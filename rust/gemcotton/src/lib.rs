@@ -248,7 +248,7 @@ pub fn root_place(n: usize) -> usize {
 }
 
 /// Packs the list into a strip at the front of `out`, whose later bytes keep their content.
-/// Gives the strip's length in bytes. The call takes up to 400 KiB of stack, however short the
+/// Gives the strip's length in bytes. It takes 400 KiB of the stack, however short the
 /// list.
 ///
 /// Refused, in this order, with nothing written: [`Empty`](Refusal::Empty),
