@@ -1,4 +1,4 @@
--- The first position that is lower than the one before it, from one position to the next; a list is ordered where there is none.
+-- The first position with a lower time than the one before, from one position to the next; a list is ordered where there is none.
 use mathlib.Core.Path.{_≡_, refl}
 use mathlib.Core.Bool.{false}
 use mathlib.Core.List.{List, [], _∷_}

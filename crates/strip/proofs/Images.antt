@@ -16,7 +16,7 @@ use Rattle.tree.specs.Levels.{partOf}
 use Rattle.strip.specs.Outcomes.{Outcome, Test, gives, verdict, after}
 use Rattle.strip.specs.Layout.{header, pinsOf, codeAt, lengthAt, partsStart, endAfter}
 use Rattle.strip.specs.Image.{valuesAt, codeFor, partFor, lengthFor, planned, entryFor, joined, stripOf}
-use Rattle.strip.specs.Opening.{headerTests, isRefused, codeTests, toldLength, lengthTest, levelTests, levelsIn, opening}
+use Rattle.strip.specs.Opening.{headerTests, isRefused, codeTests, lengthByEntries, lengthTest, levelTests, levelsIn, opening}
 use Rattle.strip.proofs.Verdicts.{verdict-passes}
 use Rattle.strip.proofs.Pieces.{joined-split, length-joined}
 use Rattle.strip.proofs.Layouts.{end-same, laid-same}
@@ -81,7 +81,7 @@ module _ (values : List ℕ) (some : 1 ≤ length values) (few : length values <
       let a4 : 8 + 5 * d + 2 + 1 ≡ 7 + 5 * d + 4 = omega arith in
       rw (a4, a3, a2, a1, byte-back d 1 l, byte-back d 2 l, byte-back d 3 l, byte-back d 4 l) (four-back (lengthFor values d) (small d))
 
-  told-back : toldLength (stripOf values) ≡ length (stripOf values)
+  told-back : lengthByEntries (stripOf values) ≡ length (stripOf values)
   told-back =
       rw pins-back (end-same (partsStart (length values)) (lengthAt (stripOf values)) (lengthFor values) (height (length values)) length-back)
       ∙ parts-end values (height (length values)) ∙ sym (length-strip values)

@@ -11,7 +11,12 @@ use lib.Seq.{getD-set-same, getD-set-other}
 use Rattle.tree.specs.declared.nodes.Levels.{Levels}
 use Rattle.tree.specs.Shape.{height}
 use Rattle.tree.specs.Levels.{Fits}
-use Rattle.strip.specs.Layout.{partsStart, endAfter, codesOf, endsOf, laidOut}
+use Rattle.tree.proofs.Promises.{height-least}
+use Rattle.strip.specs.Layout.{maxHeight, partsStart, endAfter, codesOf, endsOf, laidOut}
+
+-- a pin count of two bytes has a height of at most 16
+pub tall : (n : ℕ) → n < 2 ^ 16 → height n ≤ maxHeight
+tall n h = height-least .least n 16 (omega arith)
 
 length-codes : (code : ℕ → ℕ) (d : ℕ) → length (codesOf code d) ≡ 16
 unfolding codesOf
@@ -82,7 +87,7 @@ laid-same n code code′ len len′ p q = rw (codes-same code code′ (height n)
 abbrev pub entered : ℕ → (ℕ → ℕ) → (ℕ → ℕ) → ℕ → Levels
 entered n code len d = record { pins = n; codes = codesOf code d; ends = endsOf (partsStart n) len d }
 
-pub entered-none : (n : ℕ) (code len : ℕ → ℕ) → record { pins = n; codes = replicate 16 0; ends = set (replicate 17 0) 0 (partsStart n) } ≡ entered n code len 0
+pub entered-none : (n : ℕ) (code len : ℕ → ℕ) → record { pins = n; codes = replicate maxHeight 0; ends = set (replicate (maxHeight + 1) 0) 0 (partsStart n) } ≡ entered n code len 0
 unfolding codesOf endsOf
 entered-none n code len = refl
 
@@ -106,15 +111,15 @@ module _ (n : ℕ) (code len : ℕ → ℕ) where
   unfolding laidOut
   laid-pins = refl
 
-  module _ (tall : height n ≤ 16) where
+  module _ (few : n < 2 ^ 16) where
     pub laid-end : (d : ℕ) → d ≤ height n → getD (laidOut n code len .ends) d 0 ≡ endAfter (partsStart n) len d
     unfolding laidOut
-    laid-end d h = getD-ends (partsStart n) len (height n) d h tall
+    laid-end d h = getD-ends (partsStart n) len (height n) d h (tall n few)
 
     pub laid-at : (d : ℕ) → d < height n → At (laidOut n code len) d (code d) (endAfter (partsStart n) len d) (len d)
     unfolding laidOut
     laid-at d h = record {
-      code-is = getD-codes code (height n) d h tall;
+      code-is = getD-codes code (height n) d h (tall n few);
       starts = laid-end d (omega arith);
       ends-at = rw (add-one d) (laid-end (suc d) (omega arith) ∙ end-next (partsStart n) len d);
     }
@@ -122,7 +127,7 @@ module _ (n : ℕ) (code len : ℕ → ℕ) where
     -- levels of lengths below 2 ^ 32 that end with the bytes fit them
     pub laid-fits : (s : List ℕ) → ((d : ℕ) → d < height n → len d < 2 ^ 32) → endAfter (partsStart n) len (height n) ≡ length s → Fits (laidOut n code len) s
     laid-fits s short e = record {
-      height-fits = rw laid-pins tall;
+      height-fits = rw laid-pins (tall n few);
       in-order = λ d h. let k = laid-at d (rw laid-pins at h) in omega (arith, k .starts, k .ends-at);
       inside = λ d h. let m = rw laid-pins at h in let k = laid-at d m in omega (arith, k .ends-at, end-next (partsStart n) len d, end-mono (partsStart n) len (suc d) (height n) m, e);
       short = λ d h. let m = rw laid-pins at h in let k = laid-at d m in omega (arith, k .starts, k .ends-at, short d m);

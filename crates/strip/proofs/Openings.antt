@@ -12,7 +12,8 @@ use Rattle.strip.specs.declared.opening.Opening.{Opening}
 use Rattle.strip.specs.declared.opening.Status.{Status}
 use Rattle.strip.specs.Outcomes.{gives, refuses, Test, verdict, after}
 use Rattle.strip.specs.Layout.{pinsOf, codeAt}
-use Rattle.strip.specs.Opening.{headerTests, isRefused, codeTests, toldLength, lengthTest, levelTests, levelsIn, opening, statusOf, opened}
+use Rattle.strip.specs.Opening.{headerTests, isRefused, codeTests, lengthByEntries, lengthTest, levelTests, levelsIn, opening}
+use Rattle.strip.specs.Opened.{statusOf, opened}
 use Rattle.strip.proofs.Verdicts.{verdict-holds, verdict-passes, verdict-append}
 
 -- the code tests of the levels from the one below d others on, and what is tested then
@@ -39,12 +40,12 @@ module _ {A : Type 0} (s : List ℕ) (ts : List Test) (a : A) where
         ∙ ap (λ (i : ℕ). verdict (codeTests s (h - (d + 1)) i ++ ts) a) next)
 
 module _ {A : Type 0} (s : List ℕ) (a : A) where
-  pub length-differs : (toldLength s ≡ length s → ⊥) → verdict (lengthTest s ∷ []) a ≡ refuses 13 0
-  length-differs n = verdict-holds 13 0 [] a (not (eqb (toldLength s) (length s))) (rw (ne-eqb (toldLength s) (length s) n))
+  pub length-differs : (lengthByEntries s ≡ length s → ⊥) → verdict (lengthTest s ∷ []) a ≡ refuses 13 0
+  length-differs n = verdict-holds 13 0 [] a (not (eqb (lengthByEntries s) (length s))) (rw (ne-eqb (lengthByEntries s) (length s) n))
 
-  pub length-agrees : toldLength s ≡ length s → verdict (lengthTest s ∷ []) a ≡ gives a
+  pub length-agrees : lengthByEntries s ≡ length s → verdict (lengthTest s ∷ []) a ≡ gives a
   unfolding verdict
-  length-agrees e = rw (eq-eqb (toldLength s) (length s) e)
+  length-agrees e = rw (eq-eqb (lengthByEntries s) (length s) e)
 
 -- the header's tests, then the levels'
 pub opening-steps : (s : List ℕ) → opening s ≡ after (verdict (headerTests s) (pinsOf s)) (λ _. verdict (levelTests s) (levelsIn s))

@@ -7,7 +7,7 @@ use native.Mathlib.Decide.{decLt}
 use native.Mathlib.Numerals.{add-one}
 use native.Mathlib.Omega.{arith}
 use lib.ListN.{length, take, drop, length-append, length-take, length-drop, take-append-drop, drop-of-length-le}
-use lib.Seq.{take-all, take-at, drop-at, drop-drop, length-take-le, sets, sets-eq}
+use lib.Seq.{take-all, take-at, drop-at, drop-drop, length-take-le}
 use borrow.Rule.Slice.PartMut.{midOf, putMid}
 use Rattle.tree.specs.declared.nodes.Levels.{Levels}
 use Rattle.strip.specs.Image.{joined}
@@ -74,12 +74,10 @@ replaced-none out a = rw (append-nil (take a out), add-zero a) (take-append-drop
 -- ---- the entries of levels
 
 pub entries-next : (levels : Levels) (out : List ℕ) (d : ℕ) → 7 + 5 * d + 5 ≤ length out
-    → sets (replaced out 7 (joined (entryIn levels) d)) (7 + 5 * d) (entryIn levels d) ≡ replaced out 7 (joined (entryIn levels) (d + 1))
+    → replaced (replaced out 7 (joined (entryIn levels) d)) (7 + 5 * d) (entryIn levels d) ≡ replaced out 7 (joined (entryIn levels) (d + 1))
 entries-next levels out d h =
-    let now = replaced out 7 (joined (entryIn levels) d) in
     let e : 7 + length (joined (entryIn levels) d) ≡ 7 + 5 * d = omega (arith, length-joined (entryIn levels) 5 (λ i. refl) d) in
-    let k : 7 + 5 * d + 5 ≤ length now = rw (length-replaced out 7 (joined (entryIn levels) d) (omega (arith, e))) h in
-    sets-eq (entryIn levels d) now (7 + 5 * d) k ∙ replaced-more out 7 (7 + 5 * d) (joined (entryIn levels) d) (entryIn levels d) e (omega arith)
+    replaced-more out 7 (7 + 5 * d) (joined (entryIn levels) d) (entryIn levels d) e (omega arith)
     ∙ ap (replaced out 7) (sym (joined-next (entryIn levels) d))
 
 -- ---- a part of the buffer, lent and written at its front

@@ -1,40 +1,29 @@
 -- The levels of an image: the code and the bytes of each, and where its values stand.
 use mathlib.Core.Path.{_≡_, refl, sym, ap, _∙_}
 use mathlib.Core.List.{List, _++_}
-use Prim.Native.Nat.{ℕ, zero, suc, _+_, _-_, _*_, _/_, _^_, _≤_, _<_}
+use Prim.Native.Nat.{ℕ, zero, suc, _+_, _*_, _/_, _^_, _≤_, _<_}
 use native.Mathlib.Nat.{zero-add, add-sub-cancel-left}
-use native.Mathlib.Decide.{decLt}
 use native.Mathlib.Numerals.{add-one}
 use native.Mathlib.Omega.{arith}
-use lib.ListN.{length, take, drop, getD, length-append, length-take, length-drop, List·getD-eq-default}
-use lib.Seq.{getD-take, getD-drop, sets, sets-eq}
-use lib.Pow.{pow-pos}
+use lib.ListN.{length, drop, getD, length-append}
 use Rattle.codes.specs.Codes.{kindOf, part, Within, Holds}
 use Rattle.codes.specs.Choice.{chosen}
 use Rattle.codes.proofs.Promises.{lengths, best-choice}
 use Rattle.tree.specs.declared.nodes.Levels.{Levels}
 use Rattle.tree.specs.Shape.{height}
-use Rattle.tree.specs.Levels.{levelValues, firstOf, countOf}
-use Rattle.tree.proofs.Promises.{height-least}
+use Rattle.tree.specs.Levels.{levelValues}
+use Rattle.tree.proofs.Promises.{stored-levels}
 use Rattle.strip.specs.Layout.{header, partsStart, endAfter}
 use Rattle.strip.specs.Image.{valuesAt, codeFor, partFor, lengthFor, planned, entryFor, joined, stripOf}
 use Rattle.strip.specs.Written.{replaced, entryIn}
 use Rattle.strip.proofs.Layouts.{At, laid-end, laid-at, laid-pins}
 use Rattle.strip.proofs.Pieces.{length-joined, joined-same, joined-room, replaced-more}
 
--- part of a list of numbers below 2 ^ w
-within-part : (w k a : ℕ) (vs : List ℕ) → Within w vs → Within w (take k (drop a vs))
-within-part w k a vs h i = elim (decLt i k) [
-  | yes l ↦ rw (getD-take k (drop a vs) i 0 l, getD-drop a vs i 0) (h (a + i))
-  | no n ↦ rw (List·getD-eq-default (take k (drop a vs)) 0 {n = i} (rw (length-take k (drop a vs)) (omega arith))) (pow-pos w)
-]
-
 pub level-next : (values : List ℕ) (d : ℕ) → levelValues values (d + 1) ≡ valuesAt values d
 level-next values d = rw (add-one d)
 
 pub level-short : (values : List ℕ) (d : ℕ) → length (valuesAt values d) ≤ length values
-level-short values d =
-    rw (length-take (countOf (length values) (suc d)) (drop (firstOf (suc d) - 1) values), length-drop (firstOf (suc d) - 1) values) (omega arith)
+level-short values d = omega (arith, stored-levels .half values (suc d))
 
 pub level-code : (values : List ℕ) (d : ℕ) → codeFor values d ≡ chosen (valuesAt values d) .code
 unfolding codeFor
@@ -45,7 +34,7 @@ module _ (values : List ℕ) (w : Within 32 values) (d : ℕ) where
   vs = valuesAt values d
 
   pub values-within : Within 32 vs
-  values-within = within-part 32 (countOf (length values) (suc d)) (firstOf (suc d) - 1) values w
+  values-within = stored-levels .level-within 32 values (suc d) w
 
   pub level-holds : Holds (kindOf (codeFor values d)) vs
   unfolding codeFor
@@ -67,11 +56,8 @@ pub plan-pins : (values : List ℕ) (levels : Levels) → levels ≡ planned val
 plan-pins values levels e = rw e (laid-pins (length values) (codeFor values) (lengthFor values))
 
 module _ (values : List ℕ) (few : length values < 2 ^ 16) where
-  pub plan-tall : height (length values) ≤ 16
-  plan-tall = height-least .least (length values) 16 (omega arith)
-
   pub plan-at : (d : ℕ) → d < height (length values) → At (planned values) d (codeFor values d) (endAfter (partsStart (length values)) (lengthFor values) d) (lengthFor values d)
-  plan-at = laid-at (length values) (codeFor values) (lengthFor values) plan-tall
+  plan-at = laid-at (length values) (codeFor values) (lengthFor values) few
 
   -- so the entries that tell where they lie are those of the image
   plan-entry : (d : ℕ) → d < height (length values) → entryIn (planned values) d ≡ entryFor values d
@@ -119,12 +105,12 @@ module _ (values : List ℕ) (few : length values < 2 ^ 16) (levels : Levels) (e
 
   pub plan-end : (h : ℕ) → h ≡ height (levels .pins) → getD (levels .ends) h 0 ≡ length (stripOf values)
   plan-end h q =
-      rw (q, pins, e) (laid-end (length values) (codeFor values) (lengthFor values) (plan-tall values few) (height (length values)) (omega arith))
+      rw (q, pins, e) (laid-end (length values) (codeFor values) (lengthFor values) few (height (length values)) (omega arith))
       ∙ parts-end values (height (length values)) ∙ sym (length-strip values)
 
   -- header, entries and parts, written one after the other, are the strip
   pub strip-written : (out : List ℕ) → length (stripOf values) ≤ length out
-      → replaced (replaced (sets out 0 (header (levels .pins))) 7 (joined (entryIn levels) (height (levels .pins)))) (partsStart (levels .pins)) (joined (partFor values) (height (levels .pins)))
+      → replaced (replaced (replaced out 0 (header (levels .pins))) 7 (joined (entryIn levels) (height (levels .pins)))) (partsStart (levels .pins)) (joined (partFor values) (height (levels .pins)))
       ≡ stripOf values ++ drop (length (stripOf values)) out
   unfolding stripOf
   strip-written out room =
@@ -135,7 +121,7 @@ module _ (values : List ℕ) (few : length values < 2 ^ 16) (levels : Levels) (e
       let same : joined (entryIn levels) h ≡ entries = rw e (joined-same (entryIn (planned values)) (entryFor values) h (plan-entry values few)) in
       let five : length entries ≡ 5 * h = length-joined (entryFor values) 5 (λ i. refl) h in
       let long = length-strip values in
-      rw (pins, same, sets-eq (header n) out 0 (omega arith))
+      rw (pins, same)
       (ap (λ (o : List ℕ). replaced o (partsStart n) parts) (replaced-more out 0 7 (header n) entries refl (omega arith))
       ∙ replaced-more out 0 (partsStart n) (header n ++ entries) parts (rw (length-append (header n) entries) (omega (arith, five))) (omega arith)
       ∙ ap (λ (k : ℕ). header n ++ entries ++ parts ++ drop k out) (zero-add (length (header n ++ entries ++ parts))))

@@ -23,7 +23,7 @@ use Rattle.strip.specs.Layout.{maxPins}
 use Rattle.strip.specs.Image.{valuesAt, codeFor, partFor, planned, image}
 use Rattle.strip.specs.Opening.{opening}
 use Rattle.strip.specs.Calls.{packAnswer, written, packOutput, accessOf, searchOf, upToOf}
-use Rattle.strip.specs.Promises.{Packable, PacksOnce, Opens, ImageOpens, Back, RoundTrip}
+use Rattle.strip.specs.Promises.{Packable, PacksOnce, Opens, ImageOpens, ReadsBack, RoundTrip}
 use Rattle.strip.proofs.Counts.{smaller-next, upTo-all}
 use Rattle.strip.proofs.Images.{strip-opens, part-back}
 use Rattle.strip.proofs.Plans.{plan-at, plan-pins, level-holds, values-within}
@@ -102,7 +102,7 @@ module _ (xs : List ℕ) (p : Packable xs) where
   pins : planned (storedValues xs) .pins ≡ length xs
   pins = held .stores .pins-are
 
-  back : Back xs
+  back : ReadsBack xs
   unfolding accessOf searchOf upToOf
   back = record {
     access = λ i l. rw (opened, lt-ltb i (planned (storedValues xs) .pins) (rw pins l)) (contents .access (planned (storedValues xs)) (image xs) xs held i l);

@@ -1,5 +1,5 @@
 -- The image of a list: the one strip that it packs to.
-use mathlib.Core.List.{List, [], _∷_, _++_}
+use mathlib.Core.List.{List, [], _++_}
 use Prim.Native.Nat.{ℕ, zero, suc}
 use lib.ListN.{length}
 use Rattle.codes.specs.Codes.{part}
@@ -8,7 +8,7 @@ use Rattle.tree.specs.declared.nodes.Levels.{Levels}
 use Rattle.tree.specs.Shape.{height}
 use Rattle.tree.specs.Stored.{storedValues}
 use Rattle.tree.specs.Levels.{levelValues}
-use Rattle.strip.specs.Layout.{fourBytes, header, laidOut}
+use Rattle.strip.specs.Layout.{header, entry, laidOut}
 
 -- of the values in node order, those of the level below d others
 abbrev pub valuesAt : List ℕ → ℕ → List ℕ
@@ -24,22 +24,22 @@ partFor values d = part (codeFor values d) (valuesAt values d)
 abbrev pub lengthFor : List ℕ → ℕ → ℕ
 lengthFor values d = length (partFor values d)
 
--- where the levels lie
+-- where their parts lie in the strip
 abbrev pub planned : List ℕ → Levels
 planned values = laidOut (length values) (codeFor values) (lengthFor values)
 
--- one code byte and four bytes with the part's length
 abbrev pub entryFor : List ℕ → ℕ → List ℕ
-entryFor values d = codeFor values d ∷ fourBytes (lengthFor values d)
+entryFor values d = entry (codeFor values d) (lengthFor values d)
 
--- what d levels have, one after the other
+-- the bytes that the first d levels have, joined
 unfoldable pub joined : (ℕ → List ℕ) → ℕ → List ℕ
 joined bytes zero = []
 joined bytes (suc d) = joined bytes d ++ bytes d
 
--- the strip of values in node order
+-- the strip of values in node order: header, level entries, parts
 unfoldable pub stripOf : List ℕ → List ℕ
 stripOf values = let h = height (length values) in header (length values) ++ joined (entryFor values) h ++ joined (partFor values) h
 
+-- the image of a list, to which it packs: the strip of what its tree stores
 abbrev pub image : List ℕ → List ℕ
 image xs = stripOf (storedValues xs)

@@ -5,9 +5,18 @@ use lib.ListN.{getD, set, replicate}
 use Rattle.tree.specs.declared.nodes.Levels.{Levels}
 use Rattle.tree.specs.Shape.{height}
 
--- the greatest pin count
+-- the greatest pin count and the greatest height
 abbrev pub maxPins : ℕ
 maxPins = 65535
+
+abbrev pub maxHeight : ℕ
+maxHeight = 16
+
+abbrev pub mark : List ℕ
+mark = 0x50 ∷ 0x49 ∷ 0x4e ∷ []
+
+abbrev pub version : ℕ
+version = 1
 
 -- ---- multi-byte numbers have the high byte first
 
@@ -28,13 +37,18 @@ fourAt s a = twoAt s a * 2 ^ 16 + twoAt s (a + 2)
 
 -- bytes 0..2 are `PIN`, 3..4 the version, 1, and 5..6 n
 abbrev pub header : ℕ → List ℕ
-header n = 0x50 ∷ 0x49 ∷ 0x4e ∷ (twoBytes 1 ++ twoBytes n)
+header n = mark ++ twoBytes version ++ twoBytes n
 
 abbrev pub pinsOf : List ℕ → ℕ
 pinsOf s = twoAt s 5
 
--- Then, per level, one code byte and four bytes with the level part's length in bytes: here for the level below d others, which
--- is level d + 1.
+-- ---- the level entries
+
+-- per level, one code byte and four bytes with the level part's length in bytes
+abbrev pub entry : ℕ → ℕ → List ℕ
+entry code bytes = code ∷ fourBytes bytes
+
+-- those of the level below d others, which is level d + 1
 abbrev pub codeAt : List ℕ → ℕ → ℕ
 codeAt s d = getD s (7 + 5 * d) 0
 
@@ -52,13 +66,14 @@ unfoldable pub endAfter : ℕ → (ℕ → ℕ) → ℕ → ℕ
 endAfter start len zero = start
 endAfter start len (suc d) = endAfter start len d + len d
 
--- the entries of d levels; those of further ones are 0
+-- the codes of d levels, 0 for further ones
 unfoldable pub codesOf : (ℕ → ℕ) → ℕ → List ℕ
-codesOf code zero = replicate 16 0
+codesOf code zero = replicate maxHeight 0
 codesOf code (suc d) = set (codesOf code d) d (code d)
 
+-- and their ends, after where the first one starts
 unfoldable pub endsOf : ℕ → (ℕ → ℕ) → ℕ → List ℕ
-endsOf start len zero = set (replicate 17 0) 0 start
+endsOf start len zero = set (replicate (maxHeight + 1) 0) 0 start
 endsOf start len (suc d) = set (endsOf start len d) (suc d) (endAfter start len (suc d))
 
 -- the levels of n pins whose codes and lengths these are

@@ -4,7 +4,7 @@ use mathlib.Core.List.{List, [], _∷_}
 use Prim.Native.Nat.{ℕ, suc, _+_}
 use lib.Dec.{ltb, leb}
 
--- the first position that is lower than the one before it, or the length where the list is ordered
+-- the first position with a lower time than the one before, or the length where the list is ordered
 unfoldable pub firstLower : List ℕ → ℕ
 firstLower [] = 0
 firstLower (x ∷ []) = 1

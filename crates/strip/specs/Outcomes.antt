@@ -18,12 +18,12 @@ unfoldable pub verdict : {A : Type 0} → List Test → A → Outcome A
 verdict [] a = gives a
 verdict (test holds r c ∷ ts) a = cond holds (refuses r c) (verdict ts a)
 
--- what comes after it, where it is not refused
+-- what comes after an outcome, where it is not refused
 abbrev pub after : {A B : Type 0} → Outcome A → (A → Outcome B) → Outcome B
 after (gives a) f = f a
 after (refuses r c) f = refuses r c
 
 -- the answer of a walk, where what comes before it is not refused
-abbrev pub walked : {A : Type 0} → Outcome A → (A → Answer) → Answer
-walked (gives a) f = f a
-walked (refuses r c) f = stopped r c
+abbrev pub answerAfter : {A : Type 0} → Outcome A → (A → Answer) → Answer
+answerAfter (gives a) f = f a
+answerAfter (refuses r c) f = stopped r c

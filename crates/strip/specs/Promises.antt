@@ -52,11 +52,11 @@ ImageOpens = (xs : List ℕ) → Packable xs → (levels : Levels) × Opens xs l
 
 -- 3. On the image of a list, access at i gives time i. A search gives the number of strikes earlier than its target, and the nodes
 -- that it opens are those of its path. Up-to gives the number of strikes at or before its time.
-pub record Back (xs : List ℕ) : Type 0 where
+pub record ReadsBack (xs : List ℕ) : Type 0 where
   pub access : (i : ℕ) → i < length xs → accessOf (image xs) i ≡ found (getD xs i 0) (length (toward (length xs) i))
   pub search : (t : ℕ) → searchOf (image xs) t ≡ found (smaller t xs) (length (path xs t))
   pub nodes : (t : ℕ) (levels : Levels) → opening (image xs) ≡ gives levels → searchNodes (levels .pins) (timesIn levels (image xs)) t ≡ path xs t
   pub up-to : (t : ℕ) → t < 2 ^ 32 → upToOf (image xs) t ≡ found (upTo t xs) (cond (eqb t (2 ^ 32 - 1)) 0 (length (path xs (suc t))))
 
 abbrev pub RoundTrip : Type 0
-RoundTrip = (xs : List ℕ) → Packable xs → Back xs
+RoundTrip = (xs : List ℕ) → Packable xs → ReadsBack xs

@@ -1,9 +1,9 @@
 -- What the functions behind pack write.
-use mathlib.Core.List.{List, _∷_, _++_}
+use mathlib.Core.List.{List, _++_}
 use Prim.Native.Nat.{ℕ, _+_, _-_}
 use lib.ListN.{length, take, drop, getD}
 use Rattle.tree.specs.declared.nodes.Levels.{Levels}
-use Rattle.strip.specs.Layout.{fourBytes}
+use Rattle.strip.specs.Layout.{entry}
 
 -- a buffer with these bytes from byte a on
 abbrev pub replaced : List ℕ → ℕ → List ℕ → List ℕ
@@ -11,4 +11,4 @@ replaced out a bytes = take a out ++ bytes ++ drop (a + length bytes) out
 
 -- the code byte and the part's length of the level below d others
 abbrev pub entryIn : Levels → ℕ → List ℕ
-entryIn levels d = getD (levels .codes) d 0 ∷ fourBytes (getD (levels .ends) (d + 1) 0 - getD (levels .ends) d 0)
+entryIn levels d = entry (getD (levels .codes) d 0) (getD (levels .ends) (d + 1) 0 - getD (levels .ends) d 0)

@@ -2,7 +2,7 @@
 ghost use mathlib.Core.Path.{_≡_};
 ghost use Rattle.strip.specs.Lists.{firstLower};
 
-// The first position that is lower than the one before it, or the length.
+// The first position with a lower time than the one before, or the length.
 pub(crate) fn first_lower(times: &[u32]) -> usize
     ensures { λ r. ⌜ r ≡ firstLower (now (times .entry)) ⌝ }
 {

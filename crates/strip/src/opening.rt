@@ -6,13 +6,13 @@ use super::strip::Strip;
 use codes::Kind;
 use tree::Levels;
 ghost use mathlib.Core.Path.{_≡_};
-ghost use Prim.Native.Nat.{_+_, _*_, _^_, _<_, _≤_};
+ghost use Prim.Native.Nat.{_^_, _<_, _≤_};
 ghost use lib.ListN.{length};
 ghost use Rattle.codes.specs.Codes.{kindOf};
-ghost use Rattle.tree.specs.Shape.{height};
-ghost use Rattle.strip.specs.Layout.{pinsOf};
+ghost use Rattle.strip.specs.Layout.{pinsOf, partsStart};
 ghost use Rattle.strip.specs.Outcomes.{verdict};
-ghost use Rattle.strip.specs.Opening.{headerTests, isRefused, levelTests, levelsIn, opening, opened, FitsOpen, framed, Headed};
+ghost use Rattle.strip.specs.Opening.{headerTests, isRefused, levelTests, levelsIn, opening};
+ghost use Rattle.strip.specs.Opened.{opened, FitsOpen, headerOutcome, HeaderFits};
 
 // Whether a strip is open.
 pub(crate) enum Status {
@@ -26,40 +26,40 @@ pub(crate) struct Opening {
     pub(crate) levels: Levels,
 }
 
-// The pin count of a strip whose header lies whole in it.
-enum Frame {
+// The pin count, where the header and the level entries lie whole in the strip.
+enum Header {
     Pins(usize),
     Refused(Refusal),
 }
 
-// The tests up to the header's length.
-fn frame_of(s: &[u8]) -> Frame
-    ensures { λ r. ⌜ framed r ≡ verdict (headerTests (now (s .entry))) (pinsOf (now (s .entry))) ⌝ }
-    ensures { λ r. ⌜ Headed r (now (s .entry)) ⌝ }
+// Tests 5 (under 7 bytes), 6, 7, 1, 5 (under 7 + 5h).
+fn header_of(s: &[u8]) -> Header
+    ensures { λ r. ⌜ headerOutcome r ≡ verdict (headerTests (now (s .entry))) (pinsOf (now (s .entry))) ⌝ }
+    ensures { λ r. ⌜ HeaderFits r (now (s .entry)) ⌝ }
 {
     if s.len() < 7 {
-        return Frame::Refused(Refusal::Cut);
+        return Header::Refused(Refusal::Cut);
     }
     if s[0] != 0x50 {
-        return Frame::Refused(Refusal::Mark);
+        return Header::Refused(Refusal::Mark);
     }
     if s[1] != 0x49 {
-        return Frame::Refused(Refusal::Mark);
+        return Header::Refused(Refusal::Mark);
     }
     if s[2] != 0x4E {
-        return Frame::Refused(Refusal::Mark);
+        return Header::Refused(Refusal::Mark);
     }
     if two_at(s, 3) != 1 {
-        return Frame::Refused(Refusal::Version);
+        return Header::Refused(Refusal::Version);
     }
     let n = two_at(s, 5);
     if n == 0 {
-        return Frame::Refused(Refusal::Empty);
+        return Header::Refused(Refusal::Empty);
     }
     if s.len() < 7 + 5 * tree::height(n) {
-        return Frame::Refused(Refusal::Cut);
+        return Header::Refused(Refusal::Cut);
     }
-    Frame::Pins(n)
+    Header::Pins(n)
 }
 
 // Whether a byte is no level code.
@@ -74,9 +74,9 @@ fn is_refused(code: u8) -> bool
     }
 }
 
-// The tests of the level codes and of the length, for the n pins of a header that lies whole in the strip.
+// Tests 8 and 13, for n pins whose level entries lie whole in the strip.
 fn levels_of(s: &[u8], n: usize) -> Opening
-    requires { ⌜ (n ≡ pinsOf (now s)) × (n < 2 ^ 16) × (7 + 5 * height n ≤ length (now s)) ⌝ }
+    requires { ⌜ (n ≡ pinsOf (now s)) × (n < 2 ^ 16) × (partsStart n ≤ length (now s)) ⌝ }
     ensures { λ r. ⌜ opened r ≡ verdict (levelTests (now (s .entry))) (levelsIn (now (s .entry))) ⌝ }
     ensures { λ r. ⌜ FitsOpen (r .status) (r .levels) (now (s .entry)) ⌝ }
 {
@@ -119,10 +119,10 @@ pub(crate) fn opening_of(s: &[u8]) -> Opening
     ensures { λ r. ⌜ opened r ≡ opening (now (s .entry)) ⌝ }
     ensures { λ r. ⌜ FitsOpen (r .status) (r .levels) (now (s .entry)) ⌝ }
 {
-    let frame = frame_of(s);
-    match frame {
-        Frame::Pins(n) => levels_of(s, n),
-        Frame::Refused(r) => Opening {
+    let header = header_of(s);
+    match header {
+        Header::Pins(n) => levels_of(s, n),
+        Header::Refused(r) => Opening {
             status: Status::Refused(r),
             levels: Levels {
                 pins: 0,

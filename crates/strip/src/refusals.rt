@@ -18,13 +18,13 @@ pub enum Refusal {
     Mark,
     // 7: a version other than 1.
     Version,
-    // 8: a level code; the level.
+    // 8: a level code that is refused; the level.
     Code(usize),
     // 9: a fetch passes its part, or its value is 2^32 or more; the node.
     Fetch(usize),
     // 10: a time below 0 or above 4,294,967,295; the node.
     Time(usize),
-    // 13: a length that is not the header's and the parts'.
+    // 13: a length that is not 7 + 5h and the parts'.
     Length,
     // 14: a position at or past the pin count.
     Position,

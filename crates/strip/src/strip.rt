@@ -1,13 +1,13 @@
-// The strip type, with the calls. None requires anything.
+// The strip type, with the calls. No call requires anything.
 use super::lists::first_lower;
 use super::opening::Status;
 use super::opening::opening_of;
 use super::packing::pack_list;
 use super::refusals::Refusal;
 use super::refusals::of_walk;
+use tree::GREATEST;
 use tree::Levels;
 ghost use mathlib.Core.Path.{_≡_};
-ghost use Prim.Native.Nat.{_<_};
 ghost use lib.ListN.{length};
 ghost use Rattle.tree.specs.Shape.{height, rootPlace};
 ghost use Rattle.tree.specs.Levels.{Fits};
@@ -32,9 +32,6 @@ pub enum Searched {
     Position(usize, usize),
     Refused(Refusal),
 }
-
-// The greatest time.
-const GREATEST: u32 = 4294967295;
 
 // An access to a strip that is open.
 fn access_open(s: &[u8], levels: Levels, i: usize) -> Accessed

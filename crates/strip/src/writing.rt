@@ -1,19 +1,18 @@
 // The bytes of a strip, written piece by piece: header, entries, parts.
 use tree::Levels;
 ghost use mathlib.Core.Path.{_≡_};
-ghost use mathlib.Core.List.{_∷_, _++_};
+ghost use mathlib.Core.List.{_++_};
 ghost use Prim.Native.Nat.{ℕ, _+_, _*_, _^_, _<_, _≤_};
 ghost use lib.ListN.{length, drop, getD};
-ghost use lib.Seq.{sets};
 ghost use Rattle.tree.specs.Shape.{height};
-ghost use Rattle.strip.specs.Layout.{fourBytes, header, partsStart};
+ghost use Rattle.strip.specs.Layout.{header, entry, partsStart};
 ghost use Rattle.strip.specs.Image.{partFor, planned, joined, stripOf};
 ghost use Rattle.strip.specs.Written.{replaced, entryIn};
 
 // Writes the mark, the version and the pin count.
 fn put_header(out: &mut [u8], n: usize)
     requires { ⌜ 7 ≤ length (now out) ⌝ }
-    ensures { λ r. ⌜ now (out .exit) ≡ sets (now (out .entry)) 0 (header n) ⌝ }
+    ensures { λ r. ⌜ now (out .exit) ≡ replaced (now (out .entry)) 0 (header n) ⌝ }
 {
     out[0] = 0x50;
     out[1] = 0x49;
@@ -27,7 +26,7 @@ fn put_header(out: &mut [u8], n: usize)
 // Writes a level's code byte and the length of its part, from byte `at` on.
 fn put_entry(out: &mut [u8], at: usize, code: u8, bytes: usize)
     requires { ⌜ at + 5 ≤ length (now out) ⌝ }
-    ensures { λ r. ⌜ now (out .exit) ≡ sets (now (out .entry)) at (code ∷ fourBytes bytes) ⌝ }
+    ensures { λ r. ⌜ now (out .exit) ≡ replaced (now (out .entry)) at (entry code bytes) ⌝ }
 {
     out[at] = code;
     out[at + 1] = (bytes / 65536 / 256 % 256) as u8;
@@ -53,8 +52,8 @@ fn put_entries(out: &mut [u8], levels: Levels)
     }
 }
 
-// Writes the parts of the levels after the entries. Half as many entries as there are values are enough to work in, since no level
-// has more.
+// Writes the parts of the levels after the entries. Half as many entries as there are values, rounded up, are enough to work in,
+// since no level has more.
 fn put_parts(out: &mut [u8], work: &mut [u32], values: &[u32], levels: Levels)
     requires { ⌜ (length (now values) < 2 ^ 16) × (length (now values) + 1 ≤ 2 * length (now work)) × (levels ≡ planned (now values)) ⌝ }
     requires { ⌜ length (stripOf (now values)) ≤ length (now out) ⌝ }

@@ -64,11 +64,7 @@ pub record Digits (n : ℕ) : Type 0 where
 pub digits : (n : ℕ) → 1 ≤ n → Digits n
 digits n h =
     let e : height n ≡ suc (height n - 1) = omega (arith, height-above n 0 h) in
-    record { top = height n - 1; is = e; least = least (decLt n (2 ^ (height n - 1))); below = rw e at (height-bound n) }
-  where
-    least : Dec (n < 2 ^ (height n - 1)) → 2 ^ (height n - 1) ≤ n
-    least (yes l) = absurd (omega (arith, height-le n (height n - 1) l, height-above n 0 h))
-    least (no l) = omega arith
+    record { top = height n - 1; is = e; least = level-starts n (height n) (omega (arith, height-above n 0 h)) (omega arith); below = rw e at (height-bound n) }
 
 pub height-step : (n : ℕ) → 1 ≤ n → height n ≡ suc (height (n / 2))
 height-step n h = height-unique n (suc (height (n / 2))) (omega (arith, height-bound (n / 2))) (low (decLt n 2))

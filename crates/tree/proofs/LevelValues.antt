@@ -1,4 +1,4 @@
--- What is fetched from levels that hold a list's tree is what its nodes store.
+-- The values that nodes store: how many, how large, how many on a level; and that a fetch from their levels gives them back.
 use mathlib.Core.Path.{_≡_, refl, sym, ap, _∙_}
 use mathlib.Core.Bool.{Bool, true, false, cond}
 use mathlib.Core.List.{List, [], _++_, append-nil}
@@ -35,8 +35,8 @@ length-stored xs = length-from xs (length xs) 1
 pub getD-stored : (xs : List ℕ) (i : ℕ) → i < length xs → getD (storedValues xs) i 0 ≡ stored xs (suc i)
 getD-stored xs i h = getD-from xs (length xs) 1 i h ∙ ap (stored xs) (omega arith)
 
-difference-le : (v above time b : ℕ) → above < b → time < b → difference v above time < b
-difference-le v above time b h k = go (eqb (v % 2) 0)
+difference-below : (v above time b : ℕ) → above < b → time < b → difference v above time < b
+difference-below v above time b h k = go (eqb (v % 2) 0)
   where
     go : (even : Bool) → cond even (above - time) (time - above) < b
     go true = omega arith
@@ -44,7 +44,7 @@ difference-le v above time b h k = go (eqb (v % 2) 0)
 
 stored-below : (xs : List ℕ) (w v : ℕ) → Within w xs → stored xs v < 2 ^ w
 unfolding stored timeAbove timeOf
-stored-below xs w v h = difference-le v (timeAbove xs v) (timeOf xs v) (2 ^ w) (above (ltb v 2)) (h (rank (length xs) v))
+stored-below xs w v h = difference-below v (timeAbove xs v) (timeOf xs v) (2 ^ w) (above (ltb v 2)) (h (rank (length xs) v))
   where
     above : (root : Bool) → cond root 0 (timeOf xs (v / 2)) < 2 ^ w
     above true = pow-pos w
@@ -54,6 +54,13 @@ pub stored-within : (w : ℕ) (xs : List ℕ) → Within w xs → Within w (stor
 stored-within w xs h j = elim (decLt j (length xs)) [
   | yes l ↦ rw (getD-stored xs j l) (stored-below xs w (suc j) h)
   | no n ↦ rw (List·getD-eq-default (storedValues xs) 0 {n = j} (rw (length-stored xs) (omega arith))) (pow-pos w)
+]
+
+pub level-within : (w : ℕ) (values : List ℕ) (l : ℕ) → Within w values → Within w (levelValues values l)
+level-within w values l h i = elim (decLt i (countOf (length values) l)) [
+  | yes k ↦ rw (getD-take (countOf (length values) l) (drop (firstOf l - 1) values) i 0 k, getD-drop (firstOf l - 1) values i 0) (h (firstOf l - 1 + i))
+  | no n ↦
+      rw (List·getD-eq-default (levelValues values l) 0 {n = i} (rw (length-take (countOf (length values) l) (drop (firstOf l - 1) values)) (omega arith))) (pow-pos w)
 ]
 
 pub level-half : (values : List ℕ) (l : ℕ) → 2 * length (levelValues values l) ≤ length values + 1

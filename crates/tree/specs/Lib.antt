@@ -1,5 +1,5 @@
--- What the tree means. A reader of the public contracts needs Shape, Lists, Stored, Levels, Times and Walks; Marked has calls with
--- their answers, Promises what is shown besides the contracts. Filled is cited by a private function alone.
+-- What the tree means. A reader of the public contracts needs Shape, Lists, Stored, Levels, Times and Walks; Marked has lists
+-- with what their nodes store, Promises what is shown besides the contracts. Filled is cited by a private function alone.
 pub mod Shape
 pub mod Lists
 pub mod Stored

@@ -65,8 +65,9 @@ pub record AccessOpens : Type 0 where
   pub nodes : (n v : ℕ) → 1 ≤ v → v ≤ n → toward n (rank n v) ≡ fromRoot v
   pub few : (n i : ℕ) → length (toward n i) ≤ height n
 
--- 5. There are as many stored values as times, of as many bits, and no level has more than half of them, rounded up.
+-- 5. There are as many stored values as times, of as many bits. So have those of a level, which are at most half, rounded up.
 pub record StoredLevels : Type 0 where
   pub count : (xs : List ℕ) → length (storedValues xs) ≡ length xs
   pub within : (w : ℕ) (xs : List ℕ) → Within w xs → Within w (storedValues xs)
+  pub level-within : (w : ℕ) (values : List ℕ) (l : ℕ) → Within w values → Within w (levelValues values l)
   pub half : (values : List ℕ) (l : ℕ) → 2 * length (levelValues values l) ≤ length values + 1

@@ -6,6 +6,7 @@ mod walking; // access and search
 
 pub use building::construct;
 pub use building::level_values;
+pub use nodes::GREATEST;
 pub use nodes::Levels;
 pub use nodes::Refusal;
 pub use shape::Ranked;

@@ -24,7 +24,7 @@ pub enum Refusal {
 }
 
 // The greatest time.
-const GREATEST: u32 = 4294967295;
+pub const GREATEST: u32 = 4294967295;
 
 // The time of a node that is opened.
 pub(crate) enum Opened {

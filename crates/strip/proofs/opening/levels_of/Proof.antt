@@ -6,11 +6,10 @@ use Prim.Native.Nat.{ℕ, suc, _+_, _-_, _*_, _^_, _≤_, _<_}
 use native.Mathlib.Nat.{sub-zero}
 use native.Mathlib.Decide.{decLt}
 use Rattle.tree.specs.Shape.{height}
-use Rattle.tree.proofs.Promises.{height-least}
 use Rattle.strip.specs.Outcomes.{verdict}
 use Rattle.strip.specs.Layout.{pinsOf, codeAt, lengthAt, partsStart, endAfter, laidOut}
-use Rattle.strip.specs.Opening.{codeTests, toldLength, lengthTest, levelTests, levelsIn}
-use Rattle.strip.proofs.Layouts.{entered, entered-none, entered-next, entered-all, end-start, end-next, laid-fits}
+use Rattle.strip.specs.Opening.{codeTests, lengthByEntries, lengthTest, levelTests, levelsIn}
+use Rattle.strip.proofs.Layouts.{tall, entered, entered-none, entered-next, entered-all, end-start, end-next, laid-fits}
 use Rattle.strip.proofs.Openings.{codes-end, codes-refused, codes-pass, length-differs, length-agrees}
 use Rattle.strip.proofs.opening.levels_of.Statement.{statement}
 use Rattle.strip.proofs.opening.levels_of.Tie as tie
@@ -28,10 +27,10 @@ height-requires : tie.Need-height-requires Inv-loop μ-loop
 height-requires c κs = omega arith
 
 mul-end : tie.Need-mul-end Inv-loop μ-loop
-mul-end c = omega (arith, height-least .least (c .before .before .args .n) 16 (omega arith))
+mul-end c = omega (arith, tall (c .before .before .args .n) (omega arith))
 
 add-end : tie.Need-add-end Inv-loop μ-loop
-add-end c = omega (arith, height-least .least (c .before .before .args .n) 16 (omega arith))
+add-end c = omega (arith, tall (c .before .before .args .n) (omega arith))
 
 element-write-levels : tie.Need-element-write-levels Inv-loop μ-loop
 element-write-levels c = omega arith
@@ -40,7 +39,7 @@ loop-holds : tie.Need-loop-holds Inv-loop μ-loop
 loop-holds c =
     let n = c .before .before .args .n in
     let s = c .before .before .args .s .now in
-    let tall = height-least .least n 16 (omega arith) in (
+    let low = tall n (omega arith) in (
       omega arith,
       omega arith,
       omega arith,
@@ -126,7 +125,7 @@ loop-again c =
     short s d r e b f k l = elim (decLt k d) [ yes m ↦ f k m | no m ↦ (let q : k ≡ d = omega arith in rw (q, ← e) b) ]
 
 -- after all levels
-at-end : (s : List ℕ) (n h d end : ℕ) → n ≡ pinsOf s → h ≡ height n → d ≡ h → end ≡ endAfter (partsStart n) (lengthAt s) d → end ≡ toldLength s
+at-end : (s : List ℕ) (n h d end : ℕ) → n ≡ pinsOf s → h ≡ height n → d ≡ h → end ≡ endAfter (partsStart n) (lengthAt s) d → end ≡ lengthByEntries s
 at-end s n h d end p q r e = rw (r, q, p) at e
 
 returns-2 : tie.Need-returns-2 Inv-loop μ-loop

@@ -3,44 +3,45 @@ use mathlib.Core.Path.{_≡_, sym, ap, _∙_}
 use Prim.Native.Nat.{ℕ}
 use Rattle.strip.specs.Outcomes.{Outcome, gives, verdict, after}
 use Rattle.strip.specs.Layout.{pinsOf}
-use Rattle.strip.specs.Opening.{headerTests, levelTests, levelsIn, framed}
+use Rattle.strip.specs.Opening.{headerTests, levelTests, levelsIn}
+use Rattle.strip.specs.Opened.{headerOutcome}
 use Rattle.strip.proofs.Openings.{opening-steps}
 use borrow.Author.Needs.{needs}
 use Rattle.strip.proofs.opening.opening_of.Statement.{statement}
 use Rattle.strip.proofs.opening.opening_of.Tie as tie
 
-frame-of-requires : tie.Need-frame-of-requires
-frame-of-requires c κs = search needs
+header-of-requires : tie.Need-header-of-requires
+header-of-requires c κs = search needs
 
-enum-known-frame : tie.Need-enum-known-frame
-enum-known-frame c = search needs
+enum-known-header : tie.Need-enum-known-header
+enum-known-header c = search needs
 
 levels-of-requires : tie.Need-levels-of-requires
-levels-of-requires c κs = rw (c .before .frame .given .1) at (c .before .before .before .frame-of .ensures .1)
+levels-of-requires c κs = rw (c .before .header .given .1) at (c .before .before .before .header-of .ensures .1)
 
-enum-known-frame-2 : tie.Need-enum-known-frame-2
-enum-known-frame-2 c = search needs
+enum-known-header-2 : tie.Need-enum-known-header-2
+enum-known-header-2 c = search needs
 
 returns : tie.Need-returns
 returns c =
     let s = c .before .before .before .before .before .before .args .s .now in
-    let e : verdict (headerTests s) (pinsOf s) ≡ gives (c .before .before .frame .given .0 .0) =
-    sym (c .before .before .before .before .frame-of .ensures .0) ∙ ap framed (c .before .before .frame .given .1) in
+    let e : verdict (headerTests s) (pinsOf s) ≡ gives (c .before .before .header .given .0 .0) =
+    sym (c .before .before .before .before .header-of .ensures .0) ∙ ap headerOutcome (c .before .before .header .given .1) in
     (c .levels-of .ensures .0 ∙ sym (opening-steps s ∙ ap (λ (o : Outcome ℕ). after o (λ _. verdict (levelTests s) (levelsIn s))) e), c .levels-of .ensures .1)
 
 returns-2 : tie.Need-returns-2
 returns-2 c =
     let s = c .before .before .before .before .before .args .s .now in
-    let e = sym (c .before .before .before .frame-of .ensures .0) ∙ ap framed (c .before .frame2 .given .1) in
+    let e = sym (c .before .before .before .header-of .ensures .0) ∙ ap headerOutcome (c .before .header2 .given .1) in
     (sym (opening-steps s ∙ ap (λ (o : Outcome ℕ). after o (λ _. verdict (levelTests s) (levelsIn s))) e), tt)
 
 pub opening-of-spec : {M : Type 1} → statement M
 opening-of-spec =
     tie.close
     (tie.spec
-    frame-of-requires
-    enum-known-frame
+    header-of-requires
+    enum-known-header
     levels-of-requires
-    enum-known-frame-2
+    enum-known-header-2
     returns
     returns-2)

@@ -6,7 +6,8 @@ use borrow.Author.Tests.{lt-ltb, le-ltb}
 use Rattle.tree.specs.Shape.{height}
 use Rattle.strip.specs.Outcomes.{verdict}
 use Rattle.strip.specs.Image.{stripOf}
-use Rattle.strip.proofs.Plans.{plan-pins, plan-tall, plan-end}
+use Rattle.strip.proofs.Layouts.{tall}
+use Rattle.strip.proofs.Plans.{plan-pins, plan-end}
 use borrow.Author.Needs.{needs}
 use Rattle.strip.proofs.packing.pack_values.Statement.{statement}
 use Rattle.strip.proofs.packing.pack_values.Tie as tie
@@ -20,12 +21,12 @@ height-requires c κs = search needs
 mul-end : tie.Need-mul-end
 mul-end c =
     let values = c .before .before .before .before .before .args .values .now in
-    omega (arith, ap height (plan-pins values (c .before .plan .result) (c .before .plan .ensures)), plan-tall values (c .before .before .before .before .before .pre .0))
+    omega (arith, ap height (plan-pins values (c .before .plan .result) (c .before .plan .ensures)), tall (length values) (c .before .before .before .before .before .pre .0))
 
 element-copy-out-end : tie.Need-element-copy-out-end
 element-copy-out-end c =
     let values = c .before .before .before .before .before .args .values .now in
-    omega (arith, ap height (plan-pins values (c .before .plan .result) (c .before .plan .ensures)), plan-tall values (c .before .before .before .before .before .pre .0))
+    omega (arith, ap height (plan-pins values (c .before .plan .result) (c .before .plan .ensures)), tall (length values) (c .before .before .before .before .before .pre .0))
 
 returns : tie.Need-returns
 unfolding verdict

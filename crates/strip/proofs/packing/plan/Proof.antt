@@ -6,10 +6,9 @@ use lib.ListN.{length}
 use Rattle.codes.specs.declared.choosing.Choice.{Choice}
 use Rattle.codes.specs.Codes.{Within}
 use Rattle.codes.specs.Choice.{chosen}
-use Rattle.tree.proofs.Promises.{height-least}
 use Rattle.strip.specs.Layout.{partsStart, endAfter}
 use Rattle.strip.specs.Image.{valuesAt, codeFor, lengthFor}
-use Rattle.strip.proofs.Layouts.{entered, entered-none, entered-next, entered-all, end-start, end-next}
+use Rattle.strip.proofs.Layouts.{tall, entered, entered-none, entered-next, entered-all, end-start, end-next}
 use Rattle.strip.proofs.Plans.{level-next, level-short, level-code, length-chosen, size-small}
 use Rattle.strip.proofs.packing.plan.Statement.{statement}
 use Rattle.strip.proofs.packing.plan.Tie as tie
@@ -26,10 +25,10 @@ height-requires : tie.Need-height-requires Inv-loop μ-loop
 height-requires c κs = omega arith
 
 mul-end : tie.Need-mul-end Inv-loop μ-loop
-mul-end c = omega (arith, height-least .least (length (c .before .before .args .values .now)) 16 (omega arith))
+mul-end c = omega (arith, tall (length (c .before .before .args .values .now)) (omega arith))
 
 add-end : tie.Need-add-end Inv-loop μ-loop
-add-end c = omega (arith, height-least .least (length (c .before .before .args .values .now)) 16 (omega arith))
+add-end c = omega (arith, tall (length (c .before .before .args .values .now)) (omega arith))
 
 element-write-levels : tie.Need-element-write-levels Inv-loop μ-loop
 element-write-levels c = omega arith
@@ -38,7 +37,7 @@ loop-holds : tie.Need-loop-holds Inv-loop μ-loop
 loop-holds c =
     let values = c .before .before .args .values .now in
     let n = length values in
-    let tall = height-least .least n 16 (omega arith) in (
+    let low = tall n (omega arith) in (
       omega arith,
       omega arith,
       omega arith,

@@ -3,7 +3,6 @@ use native.Mathlib.Omega.{arith}
 use mathlib.Core.Path.{_≡_, refl, sym, ap, _∙_}
 use Prim.Native.Nat.{_+_, _-_, _*_, _≤_}
 use lib.ListN.{length}
-use lib.Seq.{sets}
 use Rattle.tree.specs.Shape.{height}
 use Rattle.strip.specs.Image.{joined}
 use Rattle.strip.specs.Written.{replaced, entryIn}
@@ -66,7 +65,7 @@ loop-again c =
     let a = c .before .before .before .before .before .before .before .before .before .before .before .args in (
       omega arith,
       omega arith,
-      c .before .before .put-entry .ensures ∙ ap (λ o. sets o (7 + 5 * l .d) (entryIn (a .t2) (l .d))) (l .inv .2)
+      c .before .before .put-entry .ensures ∙ ap (λ o. replaced o (7 + 5 * l .d) (entryIn (a .t2) (l .d))) (l .inv .2)
           ∙ entries-next (a .t2) (a .out .now) (l .d) (omega arith),
     )
 

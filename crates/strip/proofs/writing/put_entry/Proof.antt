@@ -3,6 +3,8 @@ use native.Mathlib.Omega.{arith}
 use mathlib.Core.Path.{_≡_}
 use Prim.Native.Nat.{suc, _+_}
 use lib.ListN.{length-set}
+use lib.Seq.{sets-eq}
+use Rattle.strip.specs.Layout.{entry}
 use borrow.Author.Needs.{needs}
 use Rattle.strip.proofs.writing.put_entry.Statement.{statement}
 use Rattle.strip.proofs.writing.put_entry.Tie as tie
@@ -56,7 +58,7 @@ returns c =
     let e2 : at + 2 ≡ suc (suc at) = omega arith in
     let e3 : at + 3 ≡ suc (suc (suc at)) = omega arith in
     let e4 : at + 4 ≡ suc (suc (suc (suc at))) = omega arith in
-    rw (e1, e2, e3, e4)
+    rw (e1, e2, e3, e4) (sets-eq (entry (c .args .code) (c .args .bytes)) (c .args .out .now) at (omega arith))
 
 pub put-entry-spec : {M : Type 1} → statement M
 put-entry-spec =

@@ -1,6 +1,8 @@
 -- `put_header` meets its contract.
 use native.Mathlib.Omega.{arith}
 use lib.ListN.{length-set}
+use lib.Seq.{sets-eq}
+use Rattle.strip.specs.Layout.{header}
 use borrow.Author.Needs.{needs}
 use Rattle.strip.proofs.writing.put_header.Statement.{statement}
 use Rattle.strip.proofs.writing.put_header.Tie as tie
@@ -36,7 +38,7 @@ same-length : tie.Need-same-length
 same-length c = search needs
 
 returns : tie.Need-returns
-returns c = search needs
+returns c = sets-eq (header (c .args .n)) (c .args .out .now) 0 (omega arith)
 
 pub put-header-spec : {M : Type 1} → statement M
 put-header-spec =

@@ -11,7 +11,8 @@ use Rattle.tree.proofs.Promises.{stored-levels}
 use Rattle.strip.specs.Layout.{partsStart}
 use Rattle.strip.specs.Image.{partFor, joined}
 use Rattle.strip.specs.Written.{replaced}
-use Rattle.strip.proofs.Plans.{plan-tall, plan-pins, plan-spot, level-next, level-holds}
+use Rattle.strip.proofs.Layouts.{tall}
+use Rattle.strip.proofs.Plans.{plan-pins, plan-spot, level-next, level-holds}
 use Rattle.strip.proofs.Pieces.{replaced-none, replaced-more, length-replaced, joined-next, length-lent, lent-written}
 use Rattle.strip.proofs.writing.put_parts.Statement.{statement}
 use Rattle.strip.proofs.writing.put_parts.Tie as tie
@@ -35,7 +36,7 @@ loop-holds c =
     let p = c .before .before .before .before .pre .0 in
     let h = c .height .ensures ∙ ap height (plan-pins (a .values .now) (a .t4) (p .2)) in (
       omega arith,
-      rw h (plan-tall (a .values .now) (p .0)),
+      rw h (tall (length (a .values .now)) (p .0)),
       h,
       λ j. c .before .shared-slice-known .given j .fits,
       refl,

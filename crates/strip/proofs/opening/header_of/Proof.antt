@@ -1,13 +1,13 @@
--- `frame_of` meets its contract.
+-- `header_of` meets its contract.
 use native.Mathlib.Omega.{arith}
 use borrow.Author.Needs.{needs}
 use lib.ListN.{length, getD}
 use borrow.Author.Tests.{lt-ltb, le-ltb, eq-eqb, ne-eqb}
-use Rattle.tree.proofs.Promises.{height-least}
 use Rattle.strip.specs.Outcomes.{verdict}
 use Rattle.strip.specs.Layout.{twoAt, pinsOf, partsStart}
-use Rattle.strip.proofs.opening.frame_of.Statement.{statement}
-use Rattle.strip.proofs.opening.frame_of.Tie as tie
+use Rattle.strip.proofs.Layouts.{tall}
+use Rattle.strip.proofs.opening.header_of.Statement.{statement}
+use Rattle.strip.proofs.opening.header_of.Tie as tie
 
 returns : tie.Need-returns
 unfolding verdict
@@ -64,10 +64,10 @@ height-requires : tie.Need-height-requires
 height-requires c κs = search needs
 
 mul-if7 : tie.Need-mul-if7
-mul-if7 c = omega (arith, height-least .least (c .before .before .two-at2 .result) 16 (omega arith))
+mul-if7 c = omega (arith, tall (c .before .before .two-at2 .result) (omega arith))
 
 add-if7 : tie.Need-add-if7
-add-if7 c = omega (arith, height-least .least (c .before .before .two-at2 .result) 16 (omega arith))
+add-if7 c = omega (arith, tall (c .before .before .two-at2 .result) (omega arith))
 
 returns-7 : tie.Need-returns-7
 unfolding verdict
@@ -81,8 +81,8 @@ returns-8 c =
     let s = c .before .before .before .before .before .before .before .before .before .before .before .before .before .before .args .s .now in
     (rw (le-ltb (length s) 7 (omega arith), eq-eqb (getD s 0 0) 80 (omega arith), eq-eqb (getD s 1 0) 73 (omega arith), eq-eqb (getD s 2 0) 78 (omega arith), eq-eqb (twoAt s 3) 1 (omega arith), ne-eqb (pinsOf s) 0 (λ e. omega arith), le-ltb (length s) (partsStart (pinsOf s)) (rw (← (c .before .before .before .two-at2 .ensures .0)) (omega arith)), c .before .before .before .two-at2 .ensures .0), (c .before .before .before .two-at2 .ensures .0, c .before .before .before .two-at2 .ensures .1, omega arith))
 
-pub frame-of-spec : {M : Type 1} → statement M
-frame-of-spec =
+pub header-of-spec : {M : Type 1} → statement M
+header-of-spec =
     tie.close
     (tie.spec
     returns

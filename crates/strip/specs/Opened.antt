@@ -1,0 +1,36 @@
+-- What the functions behind opening answer.
+use mathlib.Core.Path.{_≡_}
+use mathlib.Core.List.{List}
+use Prim.Native.Nat.{ℕ, _^_, _≤_, _<_}
+use lib.ListN.{length}
+use Rattle.tree.specs.declared.nodes.Levels.{Levels}
+use Rattle.tree.specs.Levels.{Fits}
+use Rattle.strip.specs.declared.opening.Status.{Status}
+use Rattle.strip.specs.declared.opening.Status.the-variants as status
+use Rattle.strip.specs.declared.opening.Header.{Header}
+use Rattle.strip.specs.declared.opening.Header.the-variants as header
+use Rattle.strip.specs.declared.opening.Opening.{Opening}
+use Rattle.strip.specs.Outcomes.{Outcome, gives, refuses}
+use Rattle.strip.specs.Refusals.{refusalNumber, carried}
+use Rattle.strip.specs.Layout.{pinsOf, partsStart}
+
+abbrev pub statusOf : {A : Type 0} → Status → A → Outcome A
+statusOf status.Open a = gives a
+statusOf (status.Refused r) a = refuses (refusalNumber r) (carried r)
+
+abbrev pub opened : Opening → Outcome Levels
+opened r = statusOf (r .status) (r .levels)
+
+-- the levels of a strip that is open fit its bytes
+abbrev pub FitsOpen : Status → Levels → List ℕ → Type 0
+FitsOpen status.Open levels s = Fits levels s
+FitsOpen (status.Refused r) levels s = Unit {0}
+
+abbrev pub headerOutcome : Header → Outcome ℕ
+headerOutcome (header.Pins n) = gives n
+headerOutcome (header.Refused r) = refuses (refusalNumber r) (carried r)
+
+-- the pin count of a header that lies whole in the strip
+abbrev pub HeaderFits : Header → List ℕ → Type 0
+HeaderFits (header.Pins n) s = (n ≡ pinsOf s) × (n < 2 ^ 16) × (partsStart n ≤ length s)
+HeaderFits (header.Refused r) s = Unit {0}
