@@ -7,7 +7,6 @@ use native.Mathlib.Nat.{add-zero, add-sub-cancel-left}
 use native.Mathlib.Omega.{arith}
 use lib.ListN.{length, drop, getD, length-append}
 use lib.Seq.{getD-drop, drop-at, take-at}
-use borrow.Author.Tests.{le-ltb, ne-eqb}
 use Rattle.codes.specs.declared.kinds.Kind.{Kind}
 use Rattle.codes.specs.declared.kinds.Kind.the-variants.{Fixed, Chunked, Refused}
 use Rattle.codes.specs.Codes.{kindOf, Within, Holds}
@@ -17,11 +16,10 @@ use Rattle.strip.specs.Outcomes.{Outcome, Test, gives, verdict, after}
 use Rattle.strip.specs.Layout.{header, pinsOf, codeAt, lengthAt, partsStart, endAfter}
 use Rattle.strip.specs.Image.{valuesAt, codeFor, partFor, lengthFor, planned, entryFor, joined, stripOf}
 use Rattle.strip.specs.Opening.{headerTests, isRefused, codeTests, lengthByEntries, lengthTest, levelTests, levelsIn, opening}
-use Rattle.strip.proofs.Verdicts.{verdict-passes}
 use Rattle.strip.proofs.Pieces.{joined-split, length-joined}
 use Rattle.strip.proofs.Layouts.{end-same, laid-same}
 use Rattle.strip.proofs.Plans.{plan-at, length-strip, parts-end, level-short, level-holds, length-chosen, size-small}
-use Rattle.strip.proofs.Openings.{length-agrees, opening-steps}
+use Rattle.strip.proofs.Openings.{header-passes, codes-step, length-agrees, opening-steps}
 
 -- a number of four bytes, read back
 four-back : (x : ℕ) → x < 2 ^ 32 → ((x / 2 ^ 16 / 2 ^ 8 % 2 ^ 8) * 2 ^ 8 + x / 2 ^ 16 % 2 ^ 8) * 2 ^ 16 + ((x / 2 ^ 8 % 2 ^ 8) * 2 ^ 8 + x % 2 ^ 8) ≡ x
@@ -39,8 +37,7 @@ codes-all : {A : Type 0} (s : List ℕ) (ts : List Test) (a : A) (k d : ℕ) →
 unfolding codeTests
 codes-all s ts a zero d h = refl
 codes-all s ts a (suc k) d h =
-    verdict-passes 8 (suc d) (codeTests s k (suc d) ++ ts) a (isRefused (kindOf (codeAt s d))) (h d (omega arith))
-    ∙ codes-all s ts a k (suc d) (λ i l. h i (omega arith))
+    codes-step s ts a k d (h d (omega arith)) ∙ codes-all s ts a k (suc d) (λ i l. h i (omega arith))
 
 module _ (values : List ℕ) (some : 1 ≤ length values) (few : length values < 2 ^ 16) (w : Within 32 values) where
   pins-back : pinsOf (stripOf values) ≡ length values
@@ -90,15 +87,10 @@ module _ (values : List ℕ) (some : 1 ≤ length values) (few : length values <
   levels-back =
       rw pins-back (laid-same (length values) (codeAt (stripOf values)) (codeFor values) (lengthAt (stripOf values)) (lengthFor values) code-back length-back)
 
-  header-passes : verdict (headerTests (stripOf values)) (pinsOf (stripOf values)) ≡ gives (pinsOf (stripOf values))
-  unfolding verdict stripOf
-  header-passes =
-      let s = stripOf values in
-      rw (
-        le-ltb (length s) 7 (omega (arith, length-strip values)),
-        ne-eqb (pinsOf s) 0 (λ e. omega (arith, pins-back)),
-        le-ltb (length s) (partsStart (pinsOf s)) (rw pins-back (omega (arith, length-strip values))),
-      )
+  header-back : verdict (headerTests (stripOf values)) (pinsOf (stripOf values)) ≡ gives (pinsOf (stripOf values))
+  unfolding stripOf
+  header-back =
+      header-passes (stripOf values) (omega (arith, length-strip values)) refl refl (λ e. omega (arith, pins-back)) (rw pins-back (omega (arith, length-strip values)))
 
   known : (i : ℕ) → i < height (pinsOf (stripOf values)) → isRefused (kindOf (codeAt (stripOf values) i)) ≡ false
   known i l =
@@ -108,7 +100,7 @@ module _ (values : List ℕ) (some : 1 ≤ length values) (few : length values <
   pub strip-opens : opening (stripOf values) ≡ gives (planned values)
   strip-opens =
       let s = stripOf values in
-      opening-steps s ∙ ap (λ (o : Outcome ℕ). after o (λ _. verdict (levelTests s) (levelsIn s))) header-passes
+      opening-steps s ∙ ap (λ (o : Outcome ℕ). after o (λ _. verdict (levelTests s) (levelsIn s))) header-back
       ∙ codes-all s (lengthTest s ∷ []) (levelsIn s) (height (pinsOf s)) 0 (λ i l. known i (omega arith))
       ∙ length-agrees s (levelsIn s) told-back ∙ ap gives levels-back
 

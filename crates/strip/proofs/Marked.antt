@@ -5,13 +5,15 @@ use mathlib.Core.List.{List, [], _∷_}
 use Prim.Native.Nat.{ℕ, zero, suc, _<_}
 use native.Mathlib.Omega.{arith}
 use lib.Dec.{T, eqb, eqb→eq}
-use lib.ListN.{length, getD}
+use lib.ListN.{length, getD, replicate, length-replicate}
+use borrow.Author.Tests.{lt-ltb, ne-eqb}
 use Rattle.codes.specs.Marked.{same}
-use Rattle.tree.specs.Shape.{rootPlace}
+use Rattle.tree.specs.Shape.{height, rootPlace}
 use Rattle.tree.specs.Walks.{Answer, found, stopped}
-use Rattle.strip.specs.Outcomes.{Outcome, gives, refuses}
+use Rattle.strip.specs.Outcomes.{Outcome, gives, refuses, verdict}
+use Rattle.strip.specs.Layout.{maxPins}
 use Rattle.strip.specs.Calls.{packAnswer, packOutput, accessOf, searchOf, upToOf}
-use Rattle.strip.specs.Marked.{Case, packs, accesses, searches, counts, root, Says, given, is, passes, all, marked, marked-pass}
+use Rattle.strip.specs.Marked.{Case, packs, accesses, searches, counts, root, tall, Says, given, is, passes, all, marked, marked-pass}
 
 both : (a b : Bool) → T (a && b) → T a × T b
 both true b h = (tt, h)
@@ -43,6 +45,7 @@ says (accesses s i r) h = same-answers (accessOf s i) r h
 says (searches s t r) h = same-answers (searchOf s t) r h
 says (counts s t r) h = same-answers (upToOf s t) r h
 says (root n p) h = eqb→eq (rootPlace n) p h
+says (tall n k) h = eqb→eq (height n) k h
 
 each : (cs : List Case) → T (all cs) → (i : ℕ) → i < length cs → Says (getD cs i (root 1 1))
 each [] h i l = absurd (omega arith)
@@ -51,3 +54,11 @@ each (c ∷ cs) h (suc i) l = each cs (both (passes c) (all cs) h .1) i (omega a
 
 pub marked-says : (i : ℕ) → i < length marked → Says (getD marked i (root 1 1))
 marked-says = each marked (rw marked-pass tt)
+
+-- the example of refusal 2: a list over 65,535
+too-many : (xs out : List ℕ) → maxPins < length xs → Says (packs xs out (refuses 2 0) out)
+unfolding packAnswer packOutput verdict
+too-many xs out h = rw (ne-eqb (length xs) 0 (λ e. omega arith), lt-ltb maxPins (length xs) h) (refl, refl)
+
+pub zeros-refused : (out : List ℕ) → Says (packs (replicate 65536 0) out (refuses 2 0) out)
+zeros-refused out = too-many (replicate 65536 0) out (rw (length-replicate {A = ℕ} 65536 0) (omega arith))

@@ -2,25 +2,69 @@
 use mathlib.Core.Path.{_≡_, sym, ap, _∙_}
 use mathlib.Core.Bool.{true, false, not}
 use mathlib.Core.List.{List, [], _∷_, _++_}
-use Prim.Native.Nat.{ℕ, suc, _+_, _-_, _<_}
+use Prim.Native.Nat.{ℕ, suc, _+_, _-_, _≤_, _<_}
 use native.Mathlib.Omega.{arith}
-use lib.Dec.{eqb}
-use lib.ListN.{length}
-use borrow.Author.Tests.{eq-eqb, ne-eqb}
+use lib.Dec.{eqb, ltb}
+use lib.ListN.{length, drop}
+use borrow.Author.Tests.{lt-ltb, le-ltb, eq-eqb, ne-eqb}
 use Rattle.codes.specs.Codes.{kindOf}
 use Rattle.strip.specs.declared.opening.Opening.{Opening}
 use Rattle.strip.specs.declared.opening.Status.{Status}
 use Rattle.strip.specs.Outcomes.{gives, refuses, Test, verdict, after}
-use Rattle.strip.specs.Layout.{pinsOf, codeAt}
-use Rattle.strip.specs.Opening.{headerTests, isRefused, codeTests, lengthByEntries, lengthTest, levelTests, levelsIn, opening}
+use Rattle.strip.specs.Layout.{version, twoAt, pinsOf, codeAt, partsStart}
+use Rattle.strip.specs.Opening.{hasMark, headerTests, isRefused, codeTests, lengthByEntries, lengthTest, levelTests, levelsIn, opening}
 use Rattle.strip.specs.Opened.{statusOf, opened}
 use Rattle.strip.proofs.Verdicts.{verdict-holds, verdict-passes, verdict-append}
+
+-- ---- the header, test by test
+
+module _ (s : List ℕ) where
+  pub cut-short : length s < 7 → verdict (headerTests s) (pinsOf s) ≡ refuses 5 0
+  cut-short l = verdict-holds 5 0 (drop 1 (headerTests s)) (pinsOf s) (ltb (length s) 7) (lt-ltb (length s) 7 l)
+
+  module _ (l : 7 ≤ length s) where
+    past-length : verdict (headerTests s) (pinsOf s) ≡ verdict (drop 1 (headerTests s)) (pinsOf s)
+    past-length = verdict-passes 5 0 (drop 1 (headerTests s)) (pinsOf s) (ltb (length s) 7) (le-ltb (length s) 7 l)
+
+    pub other-mark : hasMark s ≡ false → verdict (headerTests s) (pinsOf s) ≡ refuses 6 0
+    other-mark m = past-length ∙ verdict-holds 6 0 (drop 2 (headerTests s)) (pinsOf s) (not (hasMark s)) (rw m)
+
+    module _ (m : hasMark s ≡ true) where
+      past-mark : verdict (headerTests s) (pinsOf s) ≡ verdict (drop 2 (headerTests s)) (pinsOf s)
+      past-mark = past-length ∙ verdict-passes 6 0 (drop 2 (headerTests s)) (pinsOf s) (not (hasMark s)) (rw m)
+
+      pub other-version : (twoAt s 3 ≡ version → ⊥) → verdict (headerTests s) (pinsOf s) ≡ refuses 7 0
+      other-version v = past-mark ∙ verdict-holds 7 0 (drop 3 (headerTests s)) (pinsOf s) (not (eqb (twoAt s 3) version)) (rw (ne-eqb (twoAt s 3) version v))
+
+      module _ (v : twoAt s 3 ≡ version) where
+        past-version : verdict (headerTests s) (pinsOf s) ≡ verdict (drop 3 (headerTests s)) (pinsOf s)
+        past-version = past-mark ∙ verdict-passes 7 0 (drop 3 (headerTests s)) (pinsOf s) (not (eqb (twoAt s 3) version)) (rw (eq-eqb (twoAt s 3) version v))
+
+        pub no-pins : pinsOf s ≡ 0 → verdict (headerTests s) (pinsOf s) ≡ refuses 1 0
+        no-pins z = past-version ∙ verdict-holds 1 0 (drop 4 (headerTests s)) (pinsOf s) (eqb (pinsOf s) 0) (eq-eqb (pinsOf s) 0 z)
+
+        module _ (z : pinsOf s ≡ 0 → ⊥) where
+          past-pins : verdict (headerTests s) (pinsOf s) ≡ verdict (drop 4 (headerTests s)) (pinsOf s)
+          past-pins = past-version ∙ verdict-passes 1 0 (drop 4 (headerTests s)) (pinsOf s) (eqb (pinsOf s) 0) (ne-eqb (pinsOf s) 0 z)
+
+          pub entries-cut : length s < partsStart (pinsOf s) → verdict (headerTests s) (pinsOf s) ≡ refuses 5 0
+          entries-cut e = past-pins ∙ verdict-holds 5 0 [] (pinsOf s) (ltb (length s) (partsStart (pinsOf s))) (lt-ltb (length s) (partsStart (pinsOf s)) e)
+
+          pub header-passes : partsStart (pinsOf s) ≤ length s → verdict (headerTests s) (pinsOf s) ≡ gives (pinsOf s)
+          unfolding verdict
+          header-passes e = past-pins ∙ verdict-passes 5 0 [] (pinsOf s) (ltb (length s) (partsStart (pinsOf s))) (le-ltb (length s) (partsStart (pinsOf s)) e)
+
+-- ---- the levels, test by test
 
 -- the code tests of the levels from the one below d others on, and what is tested then
 module _ {A : Type 0} (s : List ℕ) (ts : List Test) (a : A) where
   pub codes-end : (k d : ℕ) → k ≡ 0 → verdict (codeTests s k d ++ ts) a ≡ verdict ts a
   unfolding codeTests
   codes-end k d e = rw e
+
+  pub codes-step : (k d : ℕ) → isRefused (kindOf (codeAt s d)) ≡ false → verdict (codeTests s (suc k) d ++ ts) a ≡ verdict (codeTests s k (suc d) ++ ts) a
+  unfolding codeTests
+  codes-step k d e = verdict-passes 8 (suc d) (codeTests s k (suc d) ++ ts) a (isRefused (kindOf (codeAt s d))) e
 
   module _ (h d : ℕ) (l : d < h) where
     one : h - d ≡ suc (h - (d + 1))
@@ -34,10 +78,7 @@ module _ {A : Type 0} (s : List ℕ) (ts : List Test) (a : A) where
     codes-refused e = rw one (verdict-holds 8 (suc d) (codeTests s (h - (d + 1)) (suc d) ++ ts) a (isRefused (kindOf (codeAt s d))) e ∙ ap (refuses 8) next)
 
     pub codes-pass : isRefused (kindOf (codeAt s d)) ≡ false → verdict (codeTests s (h - d) d ++ ts) a ≡ verdict (codeTests s (h - (d + 1)) (d + 1) ++ ts) a
-    unfolding codeTests
-    codes-pass e =
-        rw one (verdict-passes 8 (suc d) (codeTests s (h - (d + 1)) (suc d) ++ ts) a (isRefused (kindOf (codeAt s d))) e
-        ∙ ap (λ (i : ℕ). verdict (codeTests s (h - (d + 1)) i ++ ts) a) next)
+    codes-pass e = rw one (codes-step (h - (d + 1)) d e ∙ ap (λ (i : ℕ). verdict (codeTests s (h - (d + 1)) i ++ ts) a) next)
 
 module _ {A : Type 0} (s : List ℕ) (a : A) where
   pub length-differs : (lengthByEntries s ≡ length s → ⊥) → verdict (lengthTest s ∷ []) a ≡ refuses 13 0

@@ -11,14 +11,13 @@ use borrow.Author.Tests.{lt-ltb, le-ltb, eq-eqb, ne-eqb}
 use Rattle.codes.specs.Codes.{kindOf, part, Within, Holds}
 use Rattle.codes.specs.Choice.{size}
 use Rattle.codes.proofs.Promises.{best-choice}
-use Rattle.tree.specs.declared.nodes.Levels.{Levels}
 use Rattle.tree.specs.Shape.{height}
 use Rattle.tree.specs.Lists.{ordered}
 use Rattle.tree.specs.Stored.{storedValues}
 use Rattle.tree.specs.Levels.{codeOf, partOf, levelValues}
 use Rattle.tree.specs.Promises.{Held}
 use Rattle.tree.proofs.Promises.{stored-levels, contents, search-finds}
-use Rattle.strip.specs.Outcomes.{Outcome, gives, refuses, verdict}
+use Rattle.strip.specs.Outcomes.{Outcome, gives, verdict}
 use Rattle.strip.specs.Layout.{maxPins}
 use Rattle.strip.specs.Image.{valuesAt, codeFor, partFor, planned, image}
 use Rattle.strip.specs.Opening.{opening}
@@ -84,7 +83,13 @@ module _ (xs : List ℕ) (p : Packable xs) where
 
   image-opened : Opens xs (planned (storedValues xs))
   unfolding codeFor
-  image-opened = record { opened = opened; held = held; fewest = fewest; on-tie = on-tie }
+  image-opened = record {
+    opened = opened;
+    held = held;
+    fewest = fewest;
+    on-tie = on-tie;
+    nodes = search-finds .nodes (planned (storedValues xs)) (image xs) xs held;
+  }
     where
       fewest : (l code : ℕ) → 1 ≤ l → l ≤ height (length xs) → Holds (kindOf code) (levelValues (storedValues xs) l)
           → size (codeOf (planned (storedValues xs)) l) (levelValues (storedValues xs) l) ≤ size code (levelValues (storedValues xs) l)
@@ -107,16 +112,11 @@ module _ (xs : List ℕ) (p : Packable xs) where
   back = record {
     access = λ i l. rw (opened, lt-ltb i (planned (storedValues xs) .pins) (rw pins l)) (contents .access (planned (storedValues xs)) (image xs) xs held i l);
     search = λ t. rw opened (search-finds .answer (planned (storedValues xs)) (image xs) xs held t);
-    nodes = λ t levels e. rw (ap (levelsOr levels) (sym e ∙ opened)) (search-finds .nodes (planned (storedValues xs)) (image xs) xs held t);
     up-to = λ t h. rw opened (elim (decLt t (2 ^ 32 - 1)) [
       | yes l ↦ rw (ne-eqb t (2 ^ 32 - 1) (λ e. omega arith), ← (smaller-next t xs)) (search-finds .answer (planned (storedValues xs)) (image xs) xs held (suc t))
       | no n ↦ rw (eq-eqb t (2 ^ 32 - 1) (omega arith), pins, upTo-all t xs (λ i. omega (arith, p .times i)))
     ]);
   }
-    where
-      levelsOr : Levels → Outcome Levels → Levels
-      levelsOr other (gives levels) = levels
-      levelsOr other (refuses r c) = other
 
 pub image-opens : ImageOpens
 image-opens xs p = (planned (storedValues xs), image-opened xs p)

@@ -1,10 +1,11 @@
--- 01's marked cases and the examples of its table of refusals, computed: all that concern pack, access, search and up-to.
+-- 01's marked cases and the examples of its table of refusals that concern pack, access, search and up-to, computed. The example of 2, a
+-- list of 65,536, is too long for it and stands beside `marked-says`.
 use mathlib.Core.Bool.{Bool, true, false, _&&_}
 use mathlib.Core.Path.{_≡_, refl}
 use mathlib.Core.List.{List, [], _∷_, _++_}
-use Prim.Native.Nat.{ℕ}
+use Prim.Native.Nat.{ℕ, _+_}
 use lib.Dec.{eqb}
-use lib.ListN.{length, replicate}
+use lib.ListN.{length, take, set, replicate}
 use Rattle.codes.specs.Bits.{bits, number, sum, fixed, bytesOf, padded}
 use Rattle.codes.specs.Codes.{kindOf, rest, layers, kindBits}
 use Rattle.codes.specs.Choice.{widthIn, widest, bestChunked, chosen}
@@ -18,7 +19,7 @@ use Rattle.tree.specs.Times.{nodeTimeIn, nodeTime}
 use Rattle.tree.specs.Walks.{walkIn, walk, Answer, found, stopped, met, toward, lastOf, accessAnswer, lastLeft, searchAnswer}
 use Rattle.strip.specs.Lists.{firstLower}
 use Rattle.strip.specs.Outcomes.{Outcome, gives, refuses, verdict}
-use Rattle.strip.specs.Layout.{endAfter, codesOf, endsOf, laidOut}
+use Rattle.strip.specs.Layout.{maxPins, maxHeight, header, entry, endAfter, codesOf, endsOf, laidOut}
 use Rattle.strip.specs.Image.{codeFor, partFor, joined, stripOf, image}
 use Rattle.strip.specs.Opening.{codeTests, opening}
 use Rattle.strip.specs.Calls.{packAnswer, packOutput, accessOf, searchOf, upToOf}
@@ -35,13 +36,9 @@ a =
 abbrev pub b : List ℕ
 b = 0x50 ∷ 0x49 ∷ 0x4e ∷ 0x00 ∷ 0x01 ∷ 0x00 ∷ 0x01 ∷ 0x00 ∷ 0x00 ∷ 0x00 ∷ 0x00 ∷ 0x00 ∷ []
 
--- a strip of so many pins: its level entries and parts follow the header
-abbrev strip : ℕ → List ℕ → List ℕ
-strip n bytes = 0x50 ∷ 0x49 ∷ 0x4e ∷ 0x00 ∷ 0x01 ∷ 0x00 ∷ n ∷ bytes
-
--- the root 0, node 2 storing 1
+-- n = 2: the root 0, node 2 storing 1
 abbrev low : List ℕ
-low = strip 2 (0x00 ∷ 0x00 ∷ 0x00 ∷ 0x00 ∷ 0x00 ∷ 0x01 ∷ 0x00 ∷ 0x00 ∷ 0x00 ∷ 0x01 ∷ 0x80 ∷ [])
+low = header 2 ++ entry 0 0 ++ entry 1 1 ++ (0x80 ∷ [])
 
 pub data Case : Type 0 where
   -- the list, the output lent, the answer, and the output after it
@@ -50,6 +47,7 @@ pub data Case : Type 0 where
   searches : List ℕ → ℕ → Answer → Case
   counts : List ℕ → ℕ → Answer → Case
   root : ℕ → ℕ → Case
+  tall : ℕ → ℕ → Case
 
 abbrev pub marked : List Case
 marked =
@@ -63,17 +61,19 @@ marked =
     ∷ root 1 1 ∷ root 2 2 ∷ root 3 2 ∷ root 4 3 ∷ root 5 4 ∷ root 6 4
     -- list A by access
     ∷ accesses a 0 (found 100 3) ∷ accesses a 1 (found 250 2) ∷ accesses a 2 (found 250 3) ∷ accesses a 3 (found 400 1) ∷ accesses a 4 (found 1000 2)
-    -- refusals 1, 3 and 4
+    -- the greatest pin count has the greatest height, and one more has not
+    ∷ tall maxPins maxHeight ∷ tall (maxPins + 1) (maxHeight + 1)
+    -- examples of refusals 1, 3 and 4
     ∷ packs [] (7 ∷ []) (refuses 1 0) (7 ∷ []) ∷ packs (7 ∷ 6 ∷ []) (7 ∷ []) (refuses 3 1) (7 ∷ []) ∷ packs (0 ∷ []) (replicate 11 7) (refuses 4 12) (replicate 11 7)
-    -- 5, 6, 7, 8, 13 and 14
-    ∷ searches (0x50 ∷ 0x49 ∷ 0x4e ∷ []) 0 (stopped 5 0)
-    ∷ searches (0x50 ∷ 0x49 ∷ 0x4f ∷ 0x00 ∷ 0x01 ∷ 0x00 ∷ 0x01 ∷ 0x00 ∷ 0x00 ∷ 0x00 ∷ 0x00 ∷ 0x00 ∷ []) 0 (stopped 6 0)
-    ∷ searches (0x50 ∷ 0x49 ∷ 0x4e ∷ 0x00 ∷ 0x02 ∷ 0x00 ∷ 0x01 ∷ 0x00 ∷ 0x00 ∷ 0x00 ∷ 0x00 ∷ 0x00 ∷ []) 0 (stopped 7 0)
-    ∷ searches (strip 1 (33 ∷ 0x00 ∷ 0x00 ∷ 0x00 ∷ 0x00 ∷ [])) 0 (stopped 8 1)
-    ∷ counts (b ++ (0 ∷ [])) 4294967295 (stopped 13 0)
-    ∷ accesses a 5 (stopped 14 0)
-    -- 9 and 10
-    ∷ accesses (strip 1 (1 ∷ 0x00 ∷ 0x00 ∷ 0x00 ∷ 0x00 ∷ [])) 0 (stopped 9 1) ∷ searches low 0 (stopped 10 2)
+    -- of 5, 6, 7, 8, 13 and 14
+    ∷ searches (take 3 b) 0 (stopped 5 0) ∷ searches (set b 2 0x4f) 0 (stopped 6 0) ∷ searches (set b 4 2) 0 (stopped 7 0) ∷ searches (set b 7 33) 0 (stopped 8 1)
+    ∷ searches (b ++ (0 ∷ [])) 0 (stopped 13 0) ∷ accesses a 5 (stopped 14 0)
+    -- of 9 and 10
+    ∷ accesses (set b 7 1) 0 (stopped 9 1) ∷ searches low 0 (stopped 10 2)
+    -- opening's own 1 and second 5; two faults at once, of which the first tested is told; no refusal but opening's at the greatest time
+    ∷ searches (set b 6 0) 0 (stopped 1 0) ∷ searches (set b 6 5) 0 (stopped 5 0)
+    ∷ searches (set (set b 4 2) 6 0) 0 (stopped 7 0) ∷ searches (set b 7 33 ++ (0 ∷ [])) 0 (stopped 8 1)
+    ∷ counts (b ++ (0 ∷ [])) 4294967295 (stopped 13 0) ∷ counts low 4294967295 (found 2 0)
     ∷ []
 
 -- what a case says; `marked-says` in proofs/Marked has it of each entry
@@ -83,6 +83,7 @@ Says (accesses s i r) = accessOf s i ≡ r
 Says (searches s t r) = searchOf s t ≡ r
 Says (counts s t r) = upToOf s t ≡ r
 Says (root n p) = rootPlace n ≡ p
+Says (tall n h) = height n ≡ h
 
 -- ---- as a test that is computed
 
@@ -104,6 +105,7 @@ passes (accesses s i r) = is (accessOf s i) r
 passes (searches s t r) = is (searchOf s t) r
 passes (counts s t r) = is (upToOf s t) r
 passes (root n p) = eqb (rootPlace n) p
+passes (tall n h) = eqb (height n) h
 
 abbrev pub all : List Case → Bool
 all [] = true

@@ -38,7 +38,8 @@ abbrev pub PacksOnce : Type 0
 PacksOnce = (xs out : List ℕ) → Packable xs → length (image xs) ≤ length out → Packs xs out
 
 -- 2. Opening the image succeeds. Its levels hold what the list's tree stores, each in the code with fewest bits among all that can
--- hold it; among those with as many bits it has the least number, so a fixed code goes first, then the smaller b.
+-- hold it; among those with as many bits it has the least number, so a fixed code goes first, then the smaller b. The nodes that a
+-- search opens are those of its path.
 pub record Opens (xs : List ℕ) (levels : Levels) : Type 0 where
   pub opened : opening (image xs) ≡ gives levels
   pub held : Held levels (image xs) xs
@@ -46,16 +47,16 @@ pub record Opens (xs : List ℕ) (levels : Levels) : Type 0 where
       → size (codeOf levels l) (levelValues (storedValues xs) l) ≤ size code (levelValues (storedValues xs) l)
   pub on-tie : (l code : ℕ) → 1 ≤ l → l ≤ height (length xs) → Holds (kindOf code) (levelValues (storedValues xs) l)
       → size code (levelValues (storedValues xs) l) ≡ size (codeOf levels l) (levelValues (storedValues xs) l) → codeOf levels l ≤ code
+  pub nodes : (t : ℕ) → searchNodes (levels .pins) (timesIn levels (image xs)) t ≡ path xs t
 
 abbrev pub ImageOpens : Type 0
 ImageOpens = (xs : List ℕ) → Packable xs → (levels : Levels) × Opens xs levels
 
--- 3. On the image of a list, access at i gives time i. A search gives the number of strikes earlier than its target, and the nodes
--- that it opens are those of its path. Up-to gives the number of strikes at or before its time.
+-- 3. On the image of a list, access at i gives time i, and counts the nodes from the root to rank i. A search gives the number of
+-- strikes earlier than its target, and counts the nodes of its path. Up-to gives the number of strikes at or before its time.
 pub record ReadsBack (xs : List ℕ) : Type 0 where
   pub access : (i : ℕ) → i < length xs → accessOf (image xs) i ≡ found (getD xs i 0) (length (toward (length xs) i))
   pub search : (t : ℕ) → searchOf (image xs) t ≡ found (smaller t xs) (length (path xs t))
-  pub nodes : (t : ℕ) (levels : Levels) → opening (image xs) ≡ gives levels → searchNodes (levels .pins) (timesIn levels (image xs)) t ≡ path xs t
   pub up-to : (t : ℕ) → t < 2 ^ 32 → upToOf (image xs) t ≡ found (upTo t xs) (cond (eqb t (2 ^ 32 - 1)) 0 (length (path xs (suc t))))
 
 abbrev pub RoundTrip : Type 0

@@ -1,64 +1,66 @@
 -- `header_of` meets its contract.
 use native.Mathlib.Omega.{arith}
 use borrow.Author.Needs.{needs}
-use lib.ListN.{length, getD}
-use borrow.Author.Tests.{lt-ltb, le-ltb, eq-eqb, ne-eqb}
-use Rattle.strip.specs.Outcomes.{verdict}
-use Rattle.strip.specs.Layout.{twoAt, pinsOf, partsStart}
+use mathlib.Core.Path.{_≡_, sym, ap, _∙_}
+use mathlib.Core.Bool.{true}
+use mathlib.Core.List.{List}
+use Prim.Native.Nat.{ℕ}
+use lib.ListN.{getD}
+use borrow.Author.Tests.{eq-eqb, ne-eqb}
+use Rattle.strip.specs.Outcomes.{gives}
+use Rattle.strip.specs.Opening.{hasMark}
+use Rattle.strip.proofs.Openings.{cut-short, other-mark, other-version, no-pins, entries-cut, header-passes}
 use Rattle.strip.proofs.Layouts.{tall}
 use Rattle.strip.proofs.opening.header_of.Statement.{statement}
 use Rattle.strip.proofs.opening.header_of.Tie as tie
 
+marked : (s : List ℕ) → getD s 0 0 ≡ 0x50 → getD s 1 0 ≡ 0x49 → getD s 2 0 ≡ 0x4e → hasMark s ≡ true
+marked s p i n = rw (p, i, n)
+
 returns : tie.Need-returns
-unfolding verdict
 returns c =
     let s = c .before .before .args .s .now in
-    (rw (lt-ltb (length s) 7 (omega arith)), tt)
+    (sym (cut-short s (omega arith)), tt)
 
 shared-slice-read-if2 : tie.Need-shared-slice-read-if2
 shared-slice-read-if2 c = search needs
 
 returns-2 : tie.Need-returns-2
-unfolding verdict
 returns-2 c =
     let s = c .before .before .before .before .args .s .now in
-    (rw (le-ltb (length s) 7 (omega arith), ne-eqb (getD s 0 0) 80 (λ e. omega arith)), tt)
+    (sym (other-mark s (omega arith) (rw (ne-eqb (getD s 0 0) 0x50 (λ e. omega arith)))), tt)
 
 shared-slice-read-if3 : tie.Need-shared-slice-read-if3
 shared-slice-read-if3 c = search needs
 
 returns-3 : tie.Need-returns-3
-unfolding verdict
 returns-3 c =
     let s = c .before .before .before .before .before .before .args .s .now in
-    (rw (le-ltb (length s) 7 (omega arith), eq-eqb (getD s 0 0) 80 (omega arith), ne-eqb (getD s 1 0) 73 (λ e. omega arith)), tt)
+    (sym (other-mark s (omega arith) (rw (eq-eqb (getD s 0 0) 0x50 (omega arith), ne-eqb (getD s 1 0) 0x49 (λ e. omega arith)))), tt)
 
 shared-slice-read-if4 : tie.Need-shared-slice-read-if4
 shared-slice-read-if4 c = search needs
 
 returns-4 : tie.Need-returns-4
-unfolding verdict
 returns-4 c =
     let s = c .before .before .before .before .before .before .before .before .args .s .now in
-    (rw (le-ltb (length s) 7 (omega arith), eq-eqb (getD s 0 0) 80 (omega arith), eq-eqb (getD s 1 0) 73 (omega arith), ne-eqb (getD s 2 0) 78 (λ e. omega arith)), tt)
+    (sym (other-mark s (omega arith) (rw (eq-eqb (getD s 0 0) 0x50 (omega arith), eq-eqb (getD s 1 0) 0x49 (omega arith), ne-eqb (getD s 2 0) 0x4e (λ e. omega arith)))), tt)
 
 two-at-requires : tie.Need-two-at-requires
 two-at-requires c κs = search needs
 
 returns-5 : tie.Need-returns-5
-unfolding verdict
 returns-5 c =
     let s = c .before .before .before .before .before .before .before .before .before .before .args .s .now in
-    (rw (le-ltb (length s) 7 (omega arith), eq-eqb (getD s 0 0) 80 (omega arith), eq-eqb (getD s 1 0) 73 (omega arith), eq-eqb (getD s 2 0) 78 (omega arith), ne-eqb (twoAt s 3) 1 (λ e. omega arith)), tt)
+    (sym (other-version s (omega arith) (marked s (omega arith) (omega arith) (omega arith)) (λ e. omega arith)), tt)
 
 two-at-requires-2 : tie.Need-two-at-requires-2
 two-at-requires-2 c κs = search needs
 
 returns-6 : tie.Need-returns-6
-unfolding verdict
 returns-6 c =
     let s = c .before .before .before .before .before .before .before .before .before .before .before .before .args .s .now in
-    (rw (le-ltb (length s) 7 (omega arith), eq-eqb (getD s 0 0) 80 (omega arith), eq-eqb (getD s 1 0) 73 (omega arith), eq-eqb (getD s 2 0) 78 (omega arith), eq-eqb (twoAt s 3) 1 (omega arith), eq-eqb (pinsOf s) 0 (omega arith)), tt)
+    (sym (no-pins s (omega arith) (marked s (omega arith) (omega arith) (omega arith)) (omega arith) (omega arith)), tt)
 
 height-requires : tie.Need-height-requires
 height-requires c κs = search needs
@@ -70,16 +72,16 @@ add-if7 : tie.Need-add-if7
 add-if7 c = omega (arith, tall (c .before .before .two-at2 .result) (omega arith))
 
 returns-7 : tie.Need-returns-7
-unfolding verdict
 returns-7 c =
     let s = c .before .before .before .before .before .before .before .before .before .before .before .before .before .before .args .s .now in
-    (rw (le-ltb (length s) 7 (omega arith), eq-eqb (getD s 0 0) 80 (omega arith), eq-eqb (getD s 1 0) 73 (omega arith), eq-eqb (getD s 2 0) 78 (omega arith), eq-eqb (twoAt s 3) 1 (omega arith), ne-eqb (pinsOf s) 0 (λ e. omega arith), lt-ltb (length s) (partsStart (pinsOf s)) (rw (← (c .before .before .before .two-at2 .ensures .0)) (omega arith))), tt)
+    let n = c .before .before .before .two-at2 .ensures .0 in
+    (sym (entries-cut s (omega arith) (marked s (omega arith) (omega arith) (omega arith)) (omega arith) (λ e. omega arith) (rw (← n) (omega arith))), tt)
 
 returns-8 : tie.Need-returns-8
-unfolding verdict
 returns-8 c =
     let s = c .before .before .before .before .before .before .before .before .before .before .before .before .before .before .args .s .now in
-    (rw (le-ltb (length s) 7 (omega arith), eq-eqb (getD s 0 0) 80 (omega arith), eq-eqb (getD s 1 0) 73 (omega arith), eq-eqb (getD s 2 0) 78 (omega arith), eq-eqb (twoAt s 3) 1 (omega arith), ne-eqb (pinsOf s) 0 (λ e. omega arith), le-ltb (length s) (partsStart (pinsOf s)) (rw (← (c .before .before .before .two-at2 .ensures .0)) (omega arith)), c .before .before .before .two-at2 .ensures .0), (c .before .before .before .two-at2 .ensures .0, c .before .before .before .two-at2 .ensures .1, omega arith))
+    let n = c .before .before .before .two-at2 .ensures in
+    (ap gives (n .0) ∙ sym (header-passes s (omega arith) (marked s (omega arith) (omega arith) (omega arith)) (omega arith) (λ e. omega arith) (rw (← (n .0)) (omega arith))), (n .0, n .1, omega arith))
 
 pub header-of-spec : {M : Type 1} → statement M
 header-of-spec =
