@@ -6,13 +6,13 @@ use native.Mathlib.Nat.{le-refl}
 use native.Mathlib.Decide.{decLt}
 use native.Mathlib.Numerals.{add-one}
 use native.Mathlib.Omega.{arith}
-use lib.ListN.{length, getD, replicate, set, length-set}
+use lib.ListN.{length, getD, set, length-set}
 use lib.Seq.{getD-set-same, getD-set-other}
 use Rattle.tree.specs.declared.nodes.Levels.{Levels}
 use Rattle.tree.specs.Shape.{height}
 use Rattle.tree.specs.Levels.{Fits}
 use Rattle.tree.proofs.Promises.{height-least}
-use Rattle.strip.specs.Layout.{maxHeight, partsStart, endAfter, codesOf, endsOf, laidOut}
+use Rattle.strip.specs.Layout.{maxHeight, partsStart, noLevels, endAfter, codesOf, endsOf, laidOut}
 
 -- a pin count of two bytes has a height of at most 16
 pub tall : (n : ℕ) → n < 2 ^ 16 → height n ≤ maxHeight
@@ -87,7 +87,7 @@ laid-same n code code′ len len′ p q = rw (codes-same code code′ (height n)
 abbrev pub entered : ℕ → (ℕ → ℕ) → (ℕ → ℕ) → ℕ → Levels
 entered n code len d = record { pins = n; codes = codesOf code d; ends = endsOf (partsStart n) len d }
 
-pub entered-none : (n : ℕ) (code len : ℕ → ℕ) → record { pins = n; codes = replicate maxHeight 0; ends = set (replicate (maxHeight + 1) 0) 0 (partsStart n) } ≡ entered n code len 0
+pub entered-none : (n : ℕ) (code len : ℕ → ℕ) → noLevels n ≡ entered n code len 0
 unfolding codesOf endsOf
 entered-none n code len = refl
 

@@ -61,6 +61,10 @@ partsStart n = 7 + 5 * height n
 
 -- ---- where the levels lie
 
+-- the levels of n pins before any is entered
+abbrev pub noLevels : ℕ → Levels
+noLevels n = record { pins = n; codes = replicate maxHeight 0; ends = set (replicate (maxHeight + 1) 0) 0 (partsStart n) }
+
 -- where d parts of these lengths end, one after the other
 unfoldable pub endAfter : ℕ → (ℕ → ℕ) → ℕ → ℕ
 endAfter start len zero = start

@@ -1,8 +1,8 @@
 // Opening: the tests that every reading call makes first, and where the levels lie.
+use super::layout::no_levels;
 use super::numbers::four_at;
 use super::numbers::two_at;
 use super::refusals::Refusal;
-use super::strip::Strip;
 use codes::Kind;
 use tree::Levels;
 ghost use mathlib.Core.Path.{_≡_};
@@ -81,13 +81,8 @@ fn levels_of(s: &[u8], n: usize) -> Opening
     ensures { λ r. ⌜ FitsOpen (r .status) (r .levels) (now (s .entry)) ⌝ }
 {
     let h = tree::height(n);
-    let mut end = 7 + 5 * h;
-    let mut levels = Levels {
-        pins: n,
-        codes: [0; Strip::MAX_HEIGHT],
-        ends: [0; Strip::MAX_HEIGHT + 1],
-    };
-    levels.ends[0] = end;
+    let mut levels = no_levels(n);
+    let mut end = levels.ends[0];
     let mut d: usize = 0;
     while d < h {
         let code = s[7 + 5 * d];
@@ -124,11 +119,7 @@ pub(crate) fn opening_of(s: &[u8]) -> Opening
         Header::Pins(n) => levels_of(s, n),
         Header::Refused(r) => Opening {
             status: Status::Refused(r),
-            levels: Levels {
-                pins: 0,
-                codes: [0; Strip::MAX_HEIGHT],
-                ends: [0; Strip::MAX_HEIGHT + 1],
-            },
+            levels: no_levels(0),
         },
     }
 }

@@ -1,4 +1,5 @@
 // Packing: the plan of an image, then the image where there is room for it.
+use super::layout::no_levels;
 use super::refusals::Refusal;
 use super::strip::Packed;
 use super::strip::Strip;
@@ -19,13 +20,8 @@ fn plan(values: &[u32]) -> Levels
 {
     let n = values.len();
     let h = tree::height(n);
-    let mut end = 7 + 5 * h;
-    let mut levels = Levels {
-        pins: n,
-        codes: [0; Strip::MAX_HEIGHT],
-        ends: [0; Strip::MAX_HEIGHT + 1],
-    };
-    levels.ends[0] = end;
+    let mut levels = no_levels(n);
+    let mut end = levels.ends[0];
     let mut d: usize = 0;
     while d < h {
         let choice = codes::choose(tree::level_values(values, d + 1));

@@ -5,6 +5,7 @@ use mathlib.Core.List.{List, [], _∷_, _++_}
 use Prim.Native.Nat.{ℕ, suc, _+_, _-_, _*_, _^_, _≤_, _<_}
 use native.Mathlib.Nat.{sub-zero}
 use native.Mathlib.Decide.{decLt}
+use lib.ListN.{getD}
 use Rattle.tree.specs.Shape.{height}
 use Rattle.strip.specs.Outcomes.{verdict}
 use Rattle.strip.specs.Layout.{pinsOf, codeAt, lengthAt, partsStart, endAfter, laidOut}
@@ -15,38 +16,37 @@ use Rattle.strip.proofs.opening.levels_of.Statement.{statement}
 use Rattle.strip.proofs.opening.levels_of.Tie as tie
 
 abbrev Inv-loop : tie.InvT-loop
-Inv-loop s n h end₀ levels₀ d₀ end levels d =
+Inv-loop s n h levels₀ end₀ d₀ levels end d =
     (h ≤ 16) × (d ≤ h) × (end ≤ 87 + d * 2 ^ 32) × (end ≡ endAfter (partsStart n) (lengthAt s) d) × (levels ≡ entered n (codeAt s) (lengthAt s) d)
     × ((k : ℕ) → k < d → lengthAt s k < 2 ^ 32)
     × (verdict (levelTests s) (levelsIn s) ≡ verdict (codeTests s (h - d) d ++ (lengthTest s ∷ [])) (levelsIn s))
 
 abbrev μ-loop : tie.MeasureT-loop
-μ-loop s n h end₀ levels₀ d₀ end levels d = h - d
+μ-loop s n h levels₀ end₀ d₀ levels end d = h - d
 
 height-requires : tie.Need-height-requires Inv-loop μ-loop
 height-requires c κs = omega arith
 
-mul-end : tie.Need-mul-end Inv-loop μ-loop
-mul-end c = omega (arith, tall (c .before .before .args .n) (omega arith))
+no-levels-requires : tie.Need-no-levels-requires Inv-loop μ-loop
+no-levels-requires c κs = omega arith
 
-add-end : tie.Need-add-end Inv-loop μ-loop
-add-end c = omega (arith, tall (c .before .before .args .n) (omega arith))
-
-element-write-levels : tie.Need-element-write-levels Inv-loop μ-loop
-element-write-levels c = omega arith
+element-copy-out-end : tie.Need-element-copy-out-end Inv-loop μ-loop
+element-copy-out-end c = omega arith
 
 loop-holds : tie.Need-loop-holds Inv-loop μ-loop
 loop-holds c =
-    let n = c .before .before .args .n in
-    let s = c .before .before .args .s .now in
-    let low = tall n (omega arith) in (
+    let n = c .before .before .before .before .args .n in
+    let s = c .before .before .before .before .args .s .now in
+    let low = tall n (omega arith) in
+    let blank = c .before .no-levels .ensures in
+    let start : getD (c .before .no-levels .result .ends) 0 0 ≡ partsStart n = rw blank in (
       omega arith,
       omega arith,
-      omega arith,
-      rw (c .height .ensures) (sym (end-start (partsStart n) (lengthAt s))),
-      rw (c .height .ensures) (entered-none n (codeAt s) (lengthAt s)),
+      omega (arith, start),
+      start ∙ sym (end-start (partsStart n) (lengthAt s)),
+      blank ∙ entered-none n (codeAt s) (lengthAt s),
       λ k l. absurd (omega arith),
-      rw (sub-zero (c .height .result), c .height .ensures, c .before .before .pre .0),
+      rw (sub-zero (c .before .before .height .result), c .before .before .height .ensures, c .before .before .before .before .pre .0),
     )
 
 mul-code : tie.Need-mul-code Inv-loop μ-loop
@@ -61,14 +61,14 @@ shared-slice-read-code c = omega arith
 is-refused-requires : tie.Need-is-refused-requires Inv-loop μ-loop
 is-refused-requires c κs = omega arith
 
-add-t19 : tie.Need-add-t19 Inv-loop μ-loop
-add-t19 c = omega arith
+add-t18 : tie.Need-add-t18 Inv-loop μ-loop
+add-t18 c = omega arith
 
 returns : tie.Need-returns Inv-loop μ-loop
 returns c =
     let l = c .before .before .before .before .loop in
-    let s = c .before .before .before .before .before .before .before .args .s .now in
-    let e = codes-refused s (lengthTest s ∷ []) (levelsIn s) (c .before .before .before .before .before .height .result) (l .d) (omega arith) (sym (c .before .is-refused .ensures) ∙ c .if1 .taken) in
+    let s = c .before .before .before .before .before .before .before .before .before .args .s .now in
+    let e = codes-refused s (lengthTest s ∷ []) (levelsIn s) (c .before .before .before .before .before .before .before .height .result) (l .d) (omega arith) (sym (c .before .is-refused .ensures) ∙ c .if1 .taken) in
     (sym (l .inv .6 ∙ e), tt)
 
 mul-four-at : tie.Need-mul-four-at Inv-loop μ-loop
@@ -80,11 +80,11 @@ add-four-at c = omega arith
 four-at-requires : tie.Need-four-at-requires Inv-loop μ-loop
 four-at-requires c κs = omega arith
 
-add-end-2 : tie.Need-add-end-2 Inv-loop μ-loop
-add-end-2 c = omega arith
+add-end : tie.Need-add-end Inv-loop μ-loop
+add-end c = omega arith
 
-element-write-levels-2 : tie.Need-element-write-levels-2 Inv-loop μ-loop
-element-write-levels-2 c = omega arith
+element-write-levels : tie.Need-element-write-levels Inv-loop μ-loop
+element-write-levels c = omega arith
 
 add-levels : tie.Need-add-levels Inv-loop μ-loop
 add-levels c = omega arith
@@ -92,8 +92,8 @@ add-levels c = omega arith
 mul-levels : tie.Need-mul-levels Inv-loop μ-loop
 mul-levels c = omega arith
 
-element-write-levels-3 : tie.Need-element-write-levels-3 Inv-loop μ-loop
-element-write-levels-3 c = omega arith
+element-write-levels-2 : tie.Need-element-write-levels-2 Inv-loop μ-loop
+element-write-levels-2 c = omega arith
 
 add-d : tie.Need-add-d Inv-loop μ-loop
 add-d c = omega arith
@@ -104,14 +104,14 @@ loop-less c = omega arith
 loop-again : tie.Need-loop-again Inv-loop μ-loop
 loop-again c =
     let l = c .before .before .before .before .before .loop in
-    let n = c .before .before .before .before .before .before .before .before .args .n in
-    let s = c .before .before .before .before .before .before .before .before .args .s .now in
+    let n = c .before .before .before .before .before .before .before .before .before .before .args .n in
+    let s = c .before .before .before .before .before .before .before .before .before .before .args .s .now in
     let d = l .d in
     let start = partsStart n in
     let next : d + 1 ≡ suc d = omega arith in
     let e : l .end + c .four-at .result ≡ endAfter start (lengthAt s) (suc d) =
     rw (c .four-at .ensures .0, l .inv .3) (sym (end-next start (lengthAt s) d)) in
-    let t = codes-pass s (lengthTest s ∷ []) (levelsIn s) (c .before .before .before .before .before .before .height .result) d (omega arith) (sym (c .before .before .is-refused .ensures) ∙ c .before .if1 .left) in (
+    let t = codes-pass s (lengthTest s ∷ []) (levelsIn s) (c .before .before .before .before .before .before .before .before .height .result) d (omega arith) (sym (c .before .before .is-refused .ensures) ∙ c .before .if1 .left) in (
       l .inv .0,
       omega arith,
       omega arith,
@@ -131,23 +131,23 @@ at-end s n h d end p q r e = rw (r, q, p) at e
 returns-2 : tie.Need-returns-2 Inv-loop μ-loop
 returns-2 c =
     let l = c .before .before .loop in
-    let s = c .before .before .before .before .before .args .s .now in
-    let e = at-end s (c .before .before .before .before .before .args .n) (c .before .before .before .height .result) (l .d) (l .end) (c .before .before .before .before .before .pre .0) (c .before .before .before .height .ensures) (omega arith) (l .inv .3) in
-    let t = codes-end s (lengthTest s ∷ []) (levelsIn s) (c .before .before .before .height .result - l .d) (l .d) (omega arith) in
+    let s = c .before .before .before .before .before .before .before .args .s .now in
+    let e = at-end s (c .before .before .before .before .before .before .before .args .n) (c .before .before .before .before .before .height .result) (l .d) (l .end) (c .before .before .before .before .before .before .before .pre .0) (c .before .before .before .before .before .height .ensures) (omega arith) (l .inv .3) in
+    let t = codes-end s (lengthTest s ∷ []) (levelsIn s) (c .before .before .before .before .before .height .result - l .d) (l .d) (omega arith) in
     (sym (l .inv .6 ∙ t ∙ length-differs s (levelsIn s) (λ q. omega (arith, e))), tt)
 
 returns-3 : tie.Need-returns-3 Inv-loop μ-loop
 returns-3 c =
     let l = c .before .before .loop in
-    let n = c .before .before .before .before .before .args .n in
-    let s = c .before .before .before .before .before .args .s .now in
-    let h = c .before .before .before .height .result in
-    let e = at-end s n h (l .d) (l .end) (c .before .before .before .before .before .pre .0) (c .before .before .before .height .ensures) (omega arith) (l .inv .3) in
+    let n = c .before .before .before .before .before .before .before .args .n in
+    let s = c .before .before .before .before .before .before .before .args .s .now in
+    let h = c .before .before .before .before .before .height .result in
+    let e = at-end s n h (l .d) (l .end) (c .before .before .before .before .before .before .before .pre .0) (c .before .before .before .before .before .height .ensures) (omega arith) (l .inv .3) in
     let t = codes-end s (lengthTest s ∷ []) (levelsIn s) (h - l .d) (l .d) (omega arith) in
     let all : l .levels ≡ laidOut n (codeAt s) (lengthAt s) =
-    l .inv .4 ∙ ap (entered n (codeAt s) (lengthAt s)) (omega (arith, c .before .before .before .height .ensures)) ∙ entered-all n (codeAt s) (lengthAt s) in (
-      rw (all, c .before .before .before .before .before .pre .0) (sym (l .inv .6 ∙ t ∙ length-agrees s (levelsIn s) (omega (arith, e)))),
-      rw all (laid-fits n (codeAt s) (lengthAt s) (omega arith) s (λ k m. l .inv .5 k (omega arith)) (rw (c .before .before .before .before .before .pre .0) (omega (arith, e)))),
+    l .inv .4 ∙ ap (entered n (codeAt s) (lengthAt s)) (omega (arith, c .before .before .before .before .before .height .ensures)) ∙ entered-all n (codeAt s) (lengthAt s) in (
+      rw (all, c .before .before .before .before .before .before .before .pre .0) (sym (l .inv .6 ∙ t ∙ length-agrees s (levelsIn s) (omega (arith, e)))),
+      rw all (laid-fits n (codeAt s) (lengthAt s) (omega arith) s (λ k m. l .inv .5 k (omega arith)) (rw (c .before .before .before .before .before .before .before .pre .0) (omega (arith, e)))),
     )
 
 pub levels-of-spec : {M : Type 1} → statement M
@@ -157,24 +157,23 @@ levels-of-spec =
     Inv-loop
     μ-loop
     height-requires
-    mul-end
-    add-end
-    element-write-levels
+    no-levels-requires
+    element-copy-out-end
     loop-holds
     mul-code
     add-code
     shared-slice-read-code
     is-refused-requires
-    add-t19
+    add-t18
     returns
     mul-four-at
     add-four-at
     four-at-requires
-    add-end-2
-    element-write-levels-2
+    add-end
+    element-write-levels
     add-levels
     mul-levels
-    element-write-levels-3
+    element-write-levels-2
     add-d
     loop-less
     loop-again

@@ -22,6 +22,9 @@ levels-of-requires c κs = rw (c .before .header .given .1) at (c .before .befor
 enum-known-header-2 : tie.Need-enum-known-header-2
 enum-known-header-2 c = search needs
 
+no-levels-requires : tie.Need-no-levels-requires
+no-levels-requires c κs = search needs
+
 returns : tie.Need-returns
 returns c =
     let s = c .before .before .before .before .before .before .args .s .now in
@@ -31,8 +34,8 @@ returns c =
 
 returns-2 : tie.Need-returns-2
 returns-2 c =
-    let s = c .before .before .before .before .before .args .s .now in
-    let e = sym (c .before .before .before .header-of .ensures .0) ∙ ap headerOutcome (c .before .header2 .given .1) in
+    let s = c .before .before .before .before .before .before .args .s .now in
+    let e = sym (c .before .before .before .before .header-of .ensures .0) ∙ ap headerOutcome (c .before .before .header2 .given .1) in
     (sym (opening-steps s ∙ ap (λ (o : Outcome ℕ). after o (λ _. verdict (levelTests s) (levelsIn s))) e), tt)
 
 pub opening-of-spec : {M : Type 1} → statement M
@@ -43,5 +46,6 @@ opening-of-spec =
     enum-known-header
     levels-of-requires
     enum-known-header-2
+    no-levels-requires
     returns
     returns-2)
