@@ -1,4 +1,4 @@
-/* The calls on pin strips, for programs in C. Link with the static library that `rt staticlib strip_c` builds.
+/* The calls on pin strips, for programs in C. Link with libstrip_c.a.
  *
  * A list is strike times in milliseconds, none less than the one before; positions run from 0. A strip is bytes of any content
  * and length: every call answers on any input, and none needs the answer of another.
@@ -31,10 +31,10 @@ enum gemcotton_refusal {
   GEMCOTTON_CUT = 5,        /* the strip is cut short: 0 */
   GEMCOTTON_MARK = 6,       /* a mark other than PIN: 0 */
   GEMCOTTON_VERSION = 7,    /* a version other than 1: 0 */
-  GEMCOTTON_CODE = 8,       /* a level code: the level, counted from 1 */
+  GEMCOTTON_CODE = 8,       /* a level code that is refused: the level, counted from 1 */
   GEMCOTTON_FETCH = 9,      /* a fetch passes its part, or its value is 2^32 or more: the node */
   GEMCOTTON_TIME = 10,      /* a time below 0 or above 4,294,967,295: the node */
-  GEMCOTTON_LENGTH = 13,    /* a length that is not the header's and the parts': 0 */
+  GEMCOTTON_LENGTH = 13,    /* a length that is not 7 + 5h and the parts', h the height: 0 */
   GEMCOTTON_POSITION = 14   /* a position at or past the pin count: 0 */
 };
 
@@ -51,20 +51,24 @@ size_t gemcotton_height(size_t n);
 size_t gemcotton_root_place(size_t n);
 
 /* Packs the list into the front of `out`, whose later bytes keep their content. Gives the strip's length in bytes; no nodes.
- * Refused, in this order: 1, 2, 3, 4. It takes 400 KiB of the stack, however short the list. */
+ * Refused, in this order: 1, 2, 3, 4. With a shorter output, also of length 0, 4 carries the bytes needed. A call takes under
+ * 400 KiB of the stack, however short the list. */
 struct gemcotton_answer gemcotton_pack(uint8_t *out, size_t out_length, const uint32_t *times, size_t times_length);
 
-/* The reading calls open the strip first, refused in this order: 5, 6, 7, 1, 5, 8, 13. */
+/* The reading calls open the strip first, refused in this order: 5 (under 7 bytes), 6, 7, 1, 5 (under 7 + 5h), 8 from level 1
+ * on, 13. Then they open nodes, and the first node with 9 or 10 ends them. What they give is said of a strip that some list packs
+ * to; on any other they take the same steps down the tree. */
 
-/* Gives the time at position i and the nodes opened. Refused: 14, then 9 or 10 at the first node that has it. */
+/* Gives the time at position i and the nodes opened, from the root to the node of that position. Refused with 14 after opening. */
 struct gemcotton_answer gemcotton_access(const uint8_t *strip, size_t strip_length, size_t i);
 
-/* Gives the position of the first strike at or after the target, or the pin count, and the nodes opened. On a strip that no list packs
- * to it is the position that the same steps lead to. Refused: 9 or 10 at the first node that has it. */
+/* Gives the number of strikes before the target, so the position of the first at or after it, or the pin count; and the nodes opened. From
+ * the root it goes left where the node's time is at or above the target, else right; the position is that of the last node left
+ * by its left side, or the pin count. */
 struct gemcotton_answer gemcotton_search(const uint8_t *strip, size_t strip_length, uint32_t target);
 
-/* Gives the number of strikes at or before the time, and the nodes opened: the pin count and 0 nodes for 4,294,967,295, otherwise as
- * a search for the time plus 1. */
+/* Gives the number of strikes at or before the time, and the nodes opened: the pin count and 0 nodes for 4,294,967,295, where only
+ * opening is refused; otherwise what a search for the time plus 1 gives. */
 struct gemcotton_answer gemcotton_up_to(const uint8_t *strip, size_t strip_length, uint32_t time);
 
 #ifdef __cplusplus

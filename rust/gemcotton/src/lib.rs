@@ -3,13 +3,13 @@
 //! A list is strike times in milliseconds, none less than the one before. Equal times are a
 //! chord, and positions run from 0. A strip holds a list in bytes. Every call takes any input
 //! and answers with what it gives or with a [`Refusal`]; it panics only where the library
-//! breaks its header's promises.
+//! breaks the C header's promises.
 //!
 //! ```
 //! use gemcotton::{access, pack, search, up_to, Refusal};
 //!
 //! let mut out = [0; 64];
-//! let length = pack(&[100, 250, 250, 400, 1000], &mut out)?;
+//! let length = pack(&mut out, &[100, 250, 250, 400, 1000])?;
 //! let strip = &out[..length];
 //!
 //! assert_eq!(length, 29);
@@ -25,8 +25,8 @@
 //!
 //! [`access`], [`search`] and [`up_to`] open the strip first. They are refused where it is cut
 //! short in its first 7 bytes ([`Cut`](Refusal::Cut)), then by its [`Mark`](Refusal::Mark), its
-//! [`Version`](Refusal::Version), a pin count of 0 ([`Empty`](Refusal::Empty)), a header cut
-//! short ([`Cut`](Refusal::Cut)), the first refused [`Code`](Refusal::Code) of a level, and a
+//! [`Version`](Refusal::Version), a pin count of 0 ([`Empty`](Refusal::Empty)), level entries
+//! cut short ([`Cut`](Refusal::Cut)), the first refused [`Code`](Refusal::Code) of a level, and a
 //! wrong [`Length`](Refusal::Length), in this order.
 
 #![warn(missing_docs)]
@@ -79,14 +79,14 @@ pub enum Refusal {
         /// The node of that time.
         node: usize,
     },
-    /// 13: the strip's length is not that of its header and parts.
+    /// 13: the strip's length is not that of its header, level entries and parts.
     Length,
     /// 14: the position is not below the pin count.
     Position,
 }
 
 impl Refusal {
-    /// The refusal of this number that carries this, or none where the header has no such.
+    /// The refusal of this number that carries this, or none where the C header has no such.
     fn new(number: usize, carried: usize) -> Option<Refusal> {
         Some(match (number, carried) {
             (1, 0) => Refusal::Empty,
@@ -214,7 +214,7 @@ impl Answer {
         }
         match Refusal::new(self.refusal, self.value) {
             Some(refusal) if self.nodes == 0 && numbers.contains(&self.refusal) => Err(refusal),
-            _ => panic!("the header allows no such answer: {self:?}"),
+            _ => panic!("the C header allows no such answer: {self:?}"),
         }
     }
 }
@@ -248,14 +248,14 @@ pub fn root_place(n: usize) -> usize {
 }
 
 /// Packs the list into a strip at the front of `out`, whose later bytes keep their content.
-/// Gives the strip's length in bytes. It takes 400 KiB of the stack, however short the
-/// list.
+/// Gives the strip's length in bytes. It takes under 400 KiB of the stack, however
+/// short the list.
 ///
 /// Refused, in this order, with nothing written: [`Empty`](Refusal::Empty),
 /// [`TooMany`](Refusal::TooMany), [`ListFalls`](Refusal::ListFalls),
-/// [`Short`](Refusal::Short).
+/// [`Short`](Refusal::Short), which carries the bytes needed, also for an empty `out`.
 #[inline]
-pub fn pack(times: &[u32], out: &mut [u8]) -> Result<usize, Refusal> {
+pub fn pack(out: &mut [u8], times: &[u32]) -> Result<usize, Refusal> {
     // SAFETY: the pointers and lengths are slices', so not null. Only `out` is written, and it
     // overlaps nothing.
     let answer =
@@ -279,8 +279,9 @@ pub fn access(strip: &[u8], i: usize) -> Result<Accessed, Refusal> {
 }
 
 /// Gives the position of the first strike at or after the target, or the pin count, and the
-/// nodes opened. On a strip that no list packs to it is the position that the same steps lead
-/// to.
+/// nodes opened. From the root it goes left where a node's time is at or above the target, else
+/// right; the position is that of the last node left by its left side, or the pin count. So it
+/// answers on strips that no list packs to as well.
 ///
 /// Refused as in [opening](crate#opening), then by [`Fetch`](Refusal::Fetch) or
 /// [`Time`](Refusal::Time) at the first node that has it.
@@ -293,7 +294,8 @@ pub fn search(strip: &[u8], target: u32) -> Result<Searched, Refusal> {
 }
 
 /// Gives the number of strikes at or before the time, and the nodes opened: the pin count and
-/// 0 nodes for 4,294,967,295, otherwise what [`search`] gives for the time plus 1.
+/// 0 nodes for 4,294,967,295, otherwise what [`search`] gives for the time plus 1, also on
+/// strips that no list packs to.
 ///
 /// Refused as [`search`] is; for 4,294,967,295 in [opening](crate#opening) alone.
 #[inline]

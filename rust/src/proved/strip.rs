@@ -11,7 +11,7 @@ fn refusal(refusal: gemcotton::Refusal) -> Refusal {
 
 #[inline]
 pub fn pack(times: &[u32], out: &mut [u8]) -> Result<usize, Refusal> {
-    gemcotton::pack(times, out).map_err(refusal)
+    gemcotton::pack(out, times).map_err(refusal)
 }
 
 #[inline]

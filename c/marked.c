@@ -1,0 +1,33 @@
+/* The marked cases of strip A by the C interface: packs it, looks it up, and fails where an answer differs. */
+#include "gemcotton.h"
+
+#include <stdio.h>
+#include <string.h>
+
+static const uint32_t TIMES[] = {100, 250, 250, 400, 1000};
+static const uint8_t STRIP[] = {0x50, 0x49, 0x4E, 0x00, 0x01, 0x00, 0x05, 0x09, 0x00, 0x00, 0x00, 0x02, 0x0A, 0x00, 0x00,
+                                0x00, 0x03, 0x42, 0x00, 0x00, 0x00, 0x02, 0xC8, 0x00, 0x25, 0xA5, 0x80, 0xA2, 0xD4};
+
+static int differs(const char *what, struct gemcotton_answer answer, size_t refusal, size_t value, size_t nodes) {
+  if (answer.refusal == refusal && answer.value == value && answer.nodes == nodes) {
+    return 0;
+  }
+  fprintf(stderr, "%s: %zu %zu %zu\n", what, answer.refusal, answer.value, answer.nodes);
+  return 1;
+}
+
+int main(void) {
+  uint8_t out[sizeof STRIP + 1];
+  int faults = 0;
+  memset(out, 0x77, sizeof out);
+  faults += differs("short", gemcotton_pack(out, sizeof STRIP - 1, TIMES, 5), GEMCOTTON_SHORT, sizeof STRIP, 0);
+  faults += out[0] != 0x77;
+  faults += differs("pack", gemcotton_pack(out, sizeof out, TIMES, 5), 0, sizeof STRIP, 0);
+  faults += memcmp(out, STRIP, sizeof STRIP) != 0 || out[sizeof STRIP] != 0x77;
+  faults += differs("access", gemcotton_access(out, sizeof STRIP, 3), 0, 400, 1);
+  faults += differs("position", gemcotton_access(out, sizeof STRIP, 5), GEMCOTTON_POSITION, 0, 0);
+  faults += differs("search", gemcotton_search(out, sizeof STRIP, 250), 0, 1, 3);
+  faults += differs("up-to", gemcotton_up_to(out, sizeof STRIP, 250), 0, 3, 3);
+  faults += gemcotton_height(GEMCOTTON_MAX_PINS) != GEMCOTTON_MAX_HEIGHT || gemcotton_root_place(4) != 3;
+  return faults != 0;
+}
