@@ -17,9 +17,10 @@
 extern "C" {
 #endif
 
-/* The greatest pin count and the greatest height of a strip. */
+/* The greatest pin count and the greatest height of a strip, and a number of bytes that is enough for any strip. */
 #define GEMCOTTON_MAX_PINS 65535
 #define GEMCOTTON_MAX_HEIGHT 16
+#define GEMCOTTON_MAX_BYTES 262227
 
 /* Refusals, with what they carry. */
 enum gemcotton_refusal {
@@ -51,8 +52,8 @@ size_t gemcotton_height(size_t n);
 size_t gemcotton_root_place(size_t n);
 
 /* Packs the list into the front of `out`, whose later bytes keep their content. Gives the strip's length in bytes; no nodes.
- * Refused, in this order: 1, 2, 3, 4. With a shorter output, also of length 0, 4 carries the bytes needed. A call takes under
- * 400 KiB of the stack, however short the list. */
+ * Refused, in this order: 1, 2, 3, 4. 7 + 5h + 4n bytes are enough for n times, h their height; 4 carries the bytes
+ * needed, also for an output of length 0. A call takes under 400 KiB of the stack, however short the list. */
 struct gemcotton_answer gemcotton_pack(uint8_t *out, size_t out_length, const uint32_t *times, size_t times_length);
 
 /* The reading calls open the strip first, refused in this order: 5 (under 7 bytes), 6, 7, 1, 5 (under 7 + 5h), 8 from level 1

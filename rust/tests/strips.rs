@@ -90,9 +90,14 @@ fn check_pack(times: &[u32], room: usize) -> Result<Vec<u8>, Refusal> {
     expected
 }
 
-/// More room than a list of n needs.
+/// Room that is enough for any list of n.
 fn ample(n: usize) -> usize {
-    4 * n + 120
+    7 + 5 * height(n) + 4 * n
+}
+
+#[test]
+fn room_for_any_list() {
+    assert_eq!(gemcotton::MAX_BYTES, ample(PINS));
 }
 
 /// Bytes to read, whether or not they are a strip.

@@ -1,7 +1,7 @@
 -- The levels of an image: the code and the bytes of each, and where its values stand.
 use mathlib.Core.Path.{_≡_, refl, sym, ap, _∙_}
 use mathlib.Core.List.{List, _++_}
-use Prim.Native.Nat.{ℕ, zero, suc, _+_, _*_, _/_, _^_, _≤_, _<_}
+use Prim.Native.Nat.{ℕ, zero, suc, _+_, _-_, _*_, _/_, _^_, _≤_, _<_, min}
 use native.Mathlib.Nat.{zero-add, add-sub-cancel-left}
 use native.Mathlib.Numerals.{add-one}
 use native.Mathlib.Omega.{arith}
@@ -79,6 +79,17 @@ pub parts-end : (values : List ℕ) (d : ℕ) → endAfter (partsStart (length v
 unfolding endAfter joined
 parts-end values zero = omega arith
 parts-end values (suc d) = rw (parts-end values d, length-append (joined (partFor values) d) (partFor values d)) (omega arith)
+
+-- a part has at most 4 bytes for each value, so all have at most 4 for each pin
+parts-small : (values : List ℕ) → Within 32 values → (d : ℕ) → length (joined (partFor values) d) ≤ 4 * min (length values) (2 ^ d - 1)
+unfolding joined
+parts-small values w zero = omega arith
+parts-small values w (suc d) =
+    rw (length-append (joined (partFor values) d) (partFor values d))
+    (omega (arith, parts-small values w d, length-chosen values w d, size-small values w d, stored-levels .above values d))
+
+pub strip-small : (values : List ℕ) → Within 32 values → length (stripOf values) ≤ partsStart (length values) + 4 * length values
+strip-small values w = omega (arith, length-strip values, parts-small values w (height (length values)))
 
 -- a level of the plan: its code, where its part starts, that there is room for it, and what is written for its values
 pub record Spot (values : List ℕ) (levels : Levels) (d : ℕ) : Type 0 where

@@ -22,10 +22,10 @@ use Rattle.strip.specs.Layout.{maxPins}
 use Rattle.strip.specs.Image.{valuesAt, codeFor, partFor, planned, image}
 use Rattle.strip.specs.Opening.{opening}
 use Rattle.strip.specs.Calls.{packAnswer, written, packOutput, accessOf, searchOf, upToOf}
-use Rattle.strip.specs.Promises.{Packable, PacksOnce, Opens, ImageOpens, ReadsBack, RoundTrip}
+use Rattle.strip.specs.Promises.{Packable, PacksOnce, RoomEnough, Opens, ImageOpens, ReadsBack, RoundTrip}
 use Rattle.strip.proofs.Counts.{smaller-next, upTo-all}
 use Rattle.strip.proofs.Images.{strip-opens, part-back}
-use Rattle.strip.proofs.Plans.{plan-at, plan-pins, level-holds, values-within}
+use Rattle.strip.proofs.Plans.{strip-small, plan-at, plan-pins, level-holds, values-within}
 
 T-true : (b : Bool) → T b → b ≡ true
 T-true true h = refl
@@ -117,6 +117,9 @@ module _ (xs : List ℕ) (p : Packable xs) where
       | no n ↦ rw (eq-eqb t (2 ^ 32 - 1) (omega arith), pins, upTo-all t xs (λ i. omega (arith, p .times i)))
     ]);
   }
+
+pub room-enough : RoomEnough
+room-enough xs p = rw (count xs p) at (strip-small (storedValues xs) (within xs p))
 
 pub image-opens : ImageOpens
 image-opens xs p = (planned (storedValues xs), image-opened xs p)

@@ -40,10 +40,6 @@ packTests xs room =
 unfoldable pub packAnswer : List ℕ → ℕ → Outcome ℕ
 packAnswer xs room = verdict (packTests xs room) (length (image xs))
 
--- the same of a strip for which there may be no room
-abbrev pub packedInto : ℕ → List ℕ → Outcome ℕ
-packedInto room bytes = verdict (roomTest room bytes ∷ []) (length bytes)
-
 -- the output with these bytes at the front; a refusal writes nothing
 abbrev pub written : Outcome ℕ → List ℕ → List ℕ → List ℕ
 written (gives n) bytes out = bytes ++ drop (length bytes) out

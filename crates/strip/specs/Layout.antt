@@ -12,12 +12,6 @@ maxPins = 65535
 abbrev pub maxHeight : ℕ
 maxHeight = 16
 
-abbrev pub mark : List ℕ
-mark = 0x50 ∷ 0x49 ∷ 0x4e ∷ []
-
-abbrev pub version : ℕ
-version = 1
-
 -- ---- multi-byte numbers have the high byte first
 
 abbrev pub twoBytes : ℕ → List ℕ
@@ -35,7 +29,14 @@ fourAt s a = twoAt s a * 2 ^ 16 + twoAt s (a + 2)
 
 -- ---- the header
 
--- bytes 0..2 are `PIN`, 3..4 the version, 1, and 5..6 n
+-- `PIN`
+abbrev pub mark : List ℕ
+mark = 0x50 ∷ 0x49 ∷ 0x4e ∷ []
+
+abbrev pub version : ℕ
+version = 1
+
+-- bytes 0..2 are the mark, 3..4 the version, and 5..6 n
 abbrev pub header : ℕ → List ℕ
 header n = mark ++ twoBytes version ++ twoBytes n
 

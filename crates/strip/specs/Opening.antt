@@ -26,6 +26,7 @@ headerTests s =
     ∷ test (ltb (length s) (partsStart (pinsOf s))) 5 0
     ∷ []
 
+-- a byte that is no level code
 abbrev pub isRefused : Kind → Bool
 isRefused (Fixed w) = false
 isRefused (Chunked b) = false

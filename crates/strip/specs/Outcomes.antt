@@ -18,11 +18,6 @@ unfoldable pub verdict : {A : Type 0} → List Test → A → Outcome A
 verdict [] a = gives a
 verdict (test holds r c ∷ ts) a = cond holds (refuses r c) (verdict ts a)
 
--- what comes after an outcome, where it is not refused
-abbrev pub after : {A B : Type 0} → Outcome A → (A → Outcome B) → Outcome B
-after (gives a) f = f a
-after (refuses r c) f = refuses r c
-
 -- the answer of a walk, where what comes before it is not refused
 abbrev pub answerAfter : {A : Type 0} → Outcome A → (A → Answer) → Answer
 answerAfter (gives a) f = f a

@@ -1,8 +1,9 @@
--- What is shown of strips besides each call's contract. proofs/Promises proves each, as `packs-once`, `image-opens` and `round-trip`.
+-- What is shown of strips besides each call's contract. proofs/Promises proves each, as `packs-once`,
+-- `room-enough`, `image-opens` and `round-trip`.
 use mathlib.Core.Path.{_≡_}
 use mathlib.Core.Bool.{cond}
 use mathlib.Core.List.{List, _++_}
-use Prim.Native.Nat.{ℕ, suc, _-_, _^_, _≤_, _<_}
+use Prim.Native.Nat.{ℕ, suc, _+_, _-_, _*_, _^_, _≤_, _<_}
 use lib.Dec.{T, eqb}
 use lib.ListN.{length, drop, getD}
 use Rattle.codes.specs.Codes.{kindOf, Within, Holds}
@@ -16,7 +17,7 @@ use Rattle.tree.specs.Walks.{found, toward, searchNodes, path}
 use Rattle.tree.specs.Promises.{Held}
 use Rattle.strip.specs.Lists.{upTo}
 use Rattle.strip.specs.Outcomes.{gives}
-use Rattle.strip.specs.Layout.{maxPins}
+use Rattle.strip.specs.Layout.{maxPins, partsStart}
 use Rattle.strip.specs.Image.{image}
 use Rattle.strip.specs.Opening.{opening}
 use Rattle.strip.specs.Calls.{packAnswer, packOutput, timesIn, accessOf, searchOf, upToOf}
@@ -36,6 +37,10 @@ pub record Packs (xs out : List ℕ) : Type 0 where
 
 abbrev pub PacksOnce : Type 0
 PacksOnce = (xs out : List ℕ) → Packable xs → length (image xs) ≤ length out → Packs xs out
+
+-- Room for 4 bytes a pin after the level entries is always enough, so 262,227 bytes for any list.
+abbrev pub RoomEnough : Type 0
+RoomEnough = (xs : List ℕ) → Packable xs → length (image xs) ≤ partsStart (length xs) + 4 * length xs
 
 -- 2. Opening the image succeeds. Its levels hold what the list's tree stores, each in the code with fewest bits among all that can
 -- hold it; among those with as many bits it has the least number, so a fixed code goes first, then the smaller b. The nodes that a

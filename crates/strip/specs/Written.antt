@@ -1,9 +1,15 @@
--- What the functions behind pack write.
-use mathlib.Core.List.{List, _++_}
+-- What the functions behind pack answer and write.
+use mathlib.Core.List.{List, [], _∷_, _++_}
 use Prim.Native.Nat.{ℕ, _+_, _-_}
 use lib.ListN.{length, take, drop, getD}
 use Rattle.tree.specs.declared.nodes.Levels.{Levels}
+use Rattle.strip.specs.Outcomes.{Outcome, verdict}
 use Rattle.strip.specs.Layout.{entry}
+use Rattle.strip.specs.Calls.{roomTest}
+
+-- pack's answer for a list that has passed 1, 2 and 3, whose image these bytes are
+abbrev pub packedInto : ℕ → List ℕ → Outcome ℕ
+packedInto room bytes = verdict (roomTest room bytes ∷ []) (length bytes)
 
 -- a buffer with these bytes from byte a on
 abbrev pub replaced : List ℕ → ℕ → List ℕ → List ℕ

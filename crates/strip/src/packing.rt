@@ -11,7 +11,8 @@ ghost use lib.Dec.{T};
 ghost use lib.ListN.{length};
 ghost use Rattle.tree.specs.Lists.{ordered};
 ghost use Rattle.strip.specs.Image.{planned, stripOf, image};
-ghost use Rattle.strip.specs.Calls.{packed, packedInto, written};
+ghost use Rattle.strip.specs.Calls.{packed, written};
+ghost use Rattle.strip.specs.Written.{packedInto};
 
 // Where the levels of the image lie: each takes the code with fewest bits.
 fn plan(values: &[u32]) -> Levels

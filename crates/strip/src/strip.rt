@@ -27,7 +27,7 @@ pub enum Accessed {
     Refused(Refusal),
 }
 
-// The position found, with the nodes opened.
+// The position that a search finds, or the number of strikes that up-to counts, with the nodes opened.
 pub enum Searched {
     Position(usize, usize),
     Refused(Refusal),

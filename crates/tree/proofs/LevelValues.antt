@@ -2,7 +2,7 @@
 use mathlib.Core.Path.{_≡_, refl, sym, ap, _∙_}
 use mathlib.Core.Bool.{Bool, true, false, cond}
 use mathlib.Core.List.{List, [], _++_, append-nil}
-use Prim.Native.Nat.{ℕ, zero, suc, _+_, _-_, _*_, _/_, _%_, _^_, _≤_, _<_}
+use Prim.Native.Nat.{ℕ, zero, suc, _+_, _-_, _*_, _/_, _%_, _^_, _≤_, _<_, min}
 use native.Mathlib.Decide.{decLt}
 use native.Mathlib.Omega.{arith}
 use lib.ListN.{length, drop, getD, length-take, length-drop, List·getD-eq-default}
@@ -68,6 +68,17 @@ level-half values zero = rw (length-take (countOf (length values) 0) (drop (firs
 level-half values (suc d) =
     let e : suc d - 1 ≡ d = omega arith in
     rw (length-take (countOf (length values) (suc d)) (drop (firstOf (suc d) - 1) values), length-drop (firstOf (suc d) - 1) values, e) (omega (arith, pow-pos d))
+
+pub level-above : (values : List ℕ) (d : ℕ) → min (length values) (2 ^ d - 1) + length (levelValues values (suc d)) ≤ min (length values) (2 ^ suc d - 1)
+level-above values d =
+    let e : suc d - 1 ≡ d = omega arith in
+    let p : 2 ^ suc d ≡ 2 * 2 ^ d = omega arith in
+    rw (length-take (countOf (length values) (suc d)) (drop (firstOf (suc d) - 1) values), e, p)
+    (go (length values) (2 ^ d) (length (drop (2 ^ d - 1) values)) (decLt (length values) (2 ^ d)) (pow-pos d))
+  where
+    go : (n p m : ℕ) → Dec (n < p) → 1 ≤ p → min n (p - 1) + min (suc (min n (2 * p - 1)) - p) m ≤ min n (2 * p - 1)
+    go n p m (yes l) h = omega arith
+    go n p m (no l) h = omega arith
 
 -- a node stands on its level, and the level in the tree
 record On (n v l : ℕ) : Type 0 where

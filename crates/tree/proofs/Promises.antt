@@ -21,7 +21,7 @@ use Rattle.tree.proofs.Ranks.{rank-lt, rank-found}
 use Rattle.tree.proofs.Walks.{walk-length}
 use Rattle.tree.proofs.Paths.{toward-rank, rank-once, fromRoot-length, access-answer, search-path, search-answer}
 use Rattle.tree.proofs.Contents.{times-back}
-use Rattle.tree.proofs.LevelValues.{length-stored, stored-within, level-within, level-half, fetched-stored}
+use Rattle.tree.proofs.LevelValues.{length-stored, stored-within, level-within, level-half, level-above, fetched-stored}
 
 pub height-least : HeightLeast
 height-least = record {
@@ -89,4 +89,4 @@ access-opens = record {
 }
 
 pub stored-levels : StoredLevels
-stored-levels = record { count = length-stored; within = stored-within; level-within = level-within; half = level-half }
+stored-levels = record { count = length-stored; within = stored-within; level-within = level-within; half = level-half; above = level-above }

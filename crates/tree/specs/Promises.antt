@@ -4,7 +4,7 @@ use mathlib.Core.Path.{_≡_}
 use mathlib.Core.Logic.{_≢_, _↔_}
 use mathlib.Core.Bool.{Bool, true, false}
 use mathlib.Core.List.{List}
-use Prim.Native.Nat.{ℕ, _-_, _*_, _+_, _^_, _≤_, _<_, min}
+use Prim.Native.Nat.{ℕ, suc, _-_, _*_, _+_, _^_, _≤_, _<_, min}
 use lib.Dec.{T}
 use lib.ListN.{length, getD}
 use Rattle.codes.specs.Codes.{Within}
@@ -65,9 +65,11 @@ pub record AccessOpens : Type 0 where
   pub nodes : (n v : ℕ) → 1 ≤ v → v ≤ n → toward n (rank n v) ≡ fromRoot v
   pub few : (n i : ℕ) → length (toward n i) ≤ height n
 
--- 5. There are as many stored values as times, of as many bits. So have those of a level, which are at most half, rounded up.
+-- 5. There are as many stored values as times, of as many bits. So have those of a level, which are at most half, rounded up,
+-- and with those of the levels above as many as there are nodes down to it.
 pub record StoredLevels : Type 0 where
   pub count : (xs : List ℕ) → length (storedValues xs) ≡ length xs
   pub within : (w : ℕ) (xs : List ℕ) → Within w xs → Within w (storedValues xs)
   pub level-within : (w : ℕ) (values : List ℕ) (l : ℕ) → Within w values → Within w (levelValues values l)
   pub half : (values : List ℕ) (l : ℕ) → 2 * length (levelValues values l) ≤ length values + 1
+  pub above : (values : List ℕ) (d : ℕ) → min (length values) (2 ^ d - 1) + length (levelValues values (suc d)) ≤ min (length values) (2 ^ suc d - 1)

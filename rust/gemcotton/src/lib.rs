@@ -40,6 +40,9 @@ pub const MAX_PINS: usize = 65_535;
 /// The greatest height of a strip's tree.
 pub const MAX_HEIGHT: usize = 16;
 
+/// A number of bytes that is enough for any strip: 7 and 5 for each level, and 4 for each pin.
+pub const MAX_BYTES: usize = 7 + 5 * MAX_HEIGHT + 4 * MAX_PINS;
+
 /// Why a call was refused. Each case begins with its number in the scope, which is called 01.
 #[derive(Debug, Clone, Copy, PartialEq, Eq)]
 #[non_exhaustive]
