@@ -1,4 +1,4 @@
--- The levels of an image: the code and the bytes of each, and where its values stand.
+-- The levels of an image: the code and the bytes of each, where they lie, and the strip that they make.
 use mathlib.Core.Path.{_≡_, refl, sym, ap, _∙_}
 use mathlib.Core.List.{List, _++_}
 use Prim.Native.Nat.{ℕ, zero, suc, _+_, _-_, _*_, _/_, _^_, _≤_, _<_, min}
