@@ -6,45 +6,35 @@ use native.Mathlib.Nat.{le-refl}
 use native.Mathlib.Decide.{decLt}
 use native.Mathlib.Numerals.{add-one}
 use native.Mathlib.Omega.{arith}
-use lib.ListN.{length, getD, set, length-set}
+use lib.ListN.{length, getD, set, length-set, length-replicate}
 use lib.Seq.{getD-set-same, getD-set-other}
 use Rattle.tree.specs.declared.nodes.Levels.{Levels}
 use Rattle.tree.specs.Shape.{height}
 use Rattle.tree.specs.Levels.{Fits}
 use Rattle.tree.proofs.Promises.{height-least}
-use Rattle.strip.specs.Layout.{maxHeight, partsStart, noLevels, endAfter, codesOf, endsOf, laidOut}
+use Rattle.strip.specs.Layout.{maxHeight, partsStart, noLevels, endAfter, filled, entered, laidOut}
 
 -- a pin count of two bytes has a height of at most 16
 pub tall : (n : ℕ) → n < 2 ^ 16 → height n ≤ maxHeight
 tall n h = height-least .least n 16 (omega arith)
 
-length-codes : (code : ℕ → ℕ) (d : ℕ) → length (codesOf code d) ≡ 16
-unfolding codesOf
-length-codes code zero = refl
-length-codes code (suc d) = length-set (codesOf code d) d (code d) ∙ length-codes code d
+length-filled : (count : ℕ) (f : ℕ → ℕ) (d : ℕ) → length (filled count f d) ≡ count
+unfolding filled
+length-filled count f zero = length-replicate count 0
+length-filled count f (suc d) = length-set (filled count f d) d (f d) ∙ length-filled count f d
 
-length-ends : (start : ℕ) (len : ℕ → ℕ) (d : ℕ) → length (endsOf start len d) ≡ 17
-unfolding endsOf
-length-ends start len zero = refl
-length-ends start len (suc d) = length-set (endsOf start len d) (suc d) (endAfter start len (suc d)) ∙ length-ends start len d
-
-getD-codes : (code : ℕ → ℕ) (d i : ℕ) → i < d → d ≤ 16 → getD (codesOf code d) i 0 ≡ code i
-unfolding codesOf
-getD-codes code zero i h k = absurd (omega arith)
-getD-codes code (suc d) i h k = elim (decLt i d) [
-  | yes l ↦ getD-set-other (codesOf code d) d i (code d) 0 (omega arith) ∙ getD-codes code d i l (omega arith)
-  | no n ↦ let e : i ≡ d = omega arith in rw e (getD-set-same (codesOf code d) d (code d) 0 (omega (arith, length-codes code d)))
+getD-filled : (count : ℕ) (f : ℕ → ℕ) (d i : ℕ) → i < d → d ≤ count → getD (filled count f d) i 0 ≡ f i
+unfolding filled
+getD-filled count f zero i h k = absurd (omega arith)
+getD-filled count f (suc d) i h k = elim (decLt i d) [
+  | yes l ↦ getD-set-other (filled count f d) d i (f d) 0 (omega arith) ∙ getD-filled count f d i l (omega arith)
+  | no n ↦ let e : i ≡ d = omega arith in rw e (getD-set-same (filled count f d) d (f d) 0 (omega (arith, length-filled count f d)))
 ]
 
-getD-ends : (start : ℕ) (len : ℕ → ℕ) (d i : ℕ) → i ≤ d → d ≤ 16 → getD (endsOf start len d) i 0 ≡ endAfter start len i
-unfolding endsOf endAfter
-getD-ends start len zero i h k = let z : i ≡ 0 = omega arith in rw z
-getD-ends start len (suc d) i h k = elim (decLt i (suc d)) [
-  | yes l ↦ getD-set-other (endsOf start len d) (suc d) i (endAfter start len (suc d)) 0 (omega arith) ∙ getD-ends start len d i (omega arith) (omega arith)
-  | no n ↦
-      let e : i ≡ suc d = omega arith in
-      rw e (getD-set-same (endsOf start len d) (suc d) (endAfter start len (suc d)) 0 (omega (arith, length-ends start len d)))
-]
+filled-same : (count : ℕ) (f g : ℕ → ℕ) (d : ℕ) → ((i : ℕ) → i < d → f i ≡ g i) → filled count f d ≡ filled count g d
+unfolding filled
+filled-same count f g zero h = refl
+filled-same count f g (suc d) h = rw (filled-same count f g d (λ i k. h i (omega arith)), h d (omega arith))
 
 pub end-next : (start : ℕ) (len : ℕ → ℕ) (d : ℕ) → endAfter start len (suc d) ≡ endAfter start len d + len d
 unfolding endAfter
@@ -68,32 +58,23 @@ unfolding endAfter
 end-same start f g zero h = refl
 end-same start f g (suc d) h = rw (end-same start f g d (λ i k. h i (omega arith)), h d (omega arith))
 
-codes-same : (f g : ℕ → ℕ) (d : ℕ) → ((i : ℕ) → i < d → f i ≡ g i) → codesOf f d ≡ codesOf g d
-unfolding codesOf
-codes-same f g zero h = refl
-codes-same f g (suc d) h = rw (codes-same f g d (λ i k. h i (omega arith)), h d (omega arith))
-
-ends-same : (start : ℕ) (f g : ℕ → ℕ) (d : ℕ) → ((i : ℕ) → i < d → f i ≡ g i) → endsOf start f d ≡ endsOf start g d
-unfolding endsOf
-ends-same start f g zero h = refl
-ends-same start f g (suc d) h = rw (ends-same start f g d (λ i k. h i (omega arith)), end-same start f g (suc d) h)
-
 pub laid-same : (n : ℕ) (code code′ len len′ : ℕ → ℕ) → ((i : ℕ) → i < height n → code i ≡ code′ i) → ((i : ℕ) → i < height n → len i ≡ len′ i)
     → laidOut n code len ≡ laidOut n code′ len′
 unfolding laidOut
-laid-same n code code′ len len′ p q = rw (codes-same code code′ (height n) p, ends-same (partsStart n) len len′ (height n) q)
-
--- the first d levels entered
-abbrev pub entered : ℕ → (ℕ → ℕ) → (ℕ → ℕ) → ℕ → Levels
-entered n code len d = record { pins = n; codes = codesOf code d; ends = endsOf (partsStart n) len d }
+laid-same n code code′ len len′ p q =
+    rw (
+      filled-same maxHeight code code′ (height n) p,
+      filled-same (maxHeight + 1) (endAfter (partsStart n) len) (endAfter (partsStart n) len′) (suc (height n))
+          (λ i l. end-same (partsStart n) len len′ i (λ k m. q k (omega arith))),
+    )
 
 pub entered-none : (n : ℕ) (code len : ℕ → ℕ) → noLevels n ≡ entered n code len 0
-unfolding codesOf endsOf
+unfolding filled endAfter
 entered-none n code len = refl
 
 pub entered-next : (n : ℕ) (code len : ℕ → ℕ) (d c e : ℕ) → c ≡ code d → e ≡ endAfter (partsStart n) len (suc d)
-    → record { pins = n; codes = set (codesOf code d) d c; ends = set (endsOf (partsStart n) len d) (d + 1) e } ≡ entered n code len (d + 1)
-unfolding codesOf endsOf
+    → record { pins = n; codes = set (entered n code len d .codes) d c; ends = set (entered n code len d .ends) (d + 1) e } ≡ entered n code len (d + 1)
+unfolding filled
 entered-next n code len d c e p q = rw (p, q, add-one d)
 
 pub entered-all : (n : ℕ) (code len : ℕ → ℕ) → entered n code len (height n) ≡ laidOut n code len
@@ -114,12 +95,12 @@ module _ (n : ℕ) (code len : ℕ → ℕ) where
   module _ (few : n < 2 ^ 16) where
     pub laid-end : (d : ℕ) → d ≤ height n → getD (laidOut n code len .ends) d 0 ≡ endAfter (partsStart n) len d
     unfolding laidOut
-    laid-end d h = getD-ends (partsStart n) len (height n) d h (tall n few)
+    laid-end d h = getD-filled (maxHeight + 1) (endAfter (partsStart n) len) (suc (height n)) d (omega arith) (omega (arith, tall n few))
 
     pub laid-at : (d : ℕ) → d < height n → At (laidOut n code len) d (code d) (endAfter (partsStart n) len d) (len d)
     unfolding laidOut
     laid-at d h = record {
-      code-is = getD-codes code (height n) d h (tall n few);
+      code-is = getD-filled maxHeight code (height n) d h (tall n few);
       starts = laid-end d (omega arith);
       ends-at = rw (add-one d) (laid-end (suc d) (omega arith) ∙ end-next (partsStart n) len d);
     }

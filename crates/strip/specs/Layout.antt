@@ -71,16 +71,15 @@ unfoldable pub endAfter : ℕ → (ℕ → ℕ) → ℕ → ℕ
 endAfter start len zero = start
 endAfter start len (suc d) = endAfter start len d + len d
 
--- the codes of d levels, 0 for further ones
-unfoldable pub codesOf : (ℕ → ℕ) → ℕ → List ℕ
-codesOf code zero = replicate maxHeight 0
-codesOf code (suc d) = set (codesOf code d) d (code d)
+-- a list of so many numbers: the first d of a sequence, and 0 for the others
+unfoldable pub filled : ℕ → (ℕ → ℕ) → ℕ → List ℕ
+filled count f zero = replicate count 0
+filled count f (suc d) = set (filled count f d) d (f d)
 
--- and their ends, after where the first one starts
-unfoldable pub endsOf : ℕ → (ℕ → ℕ) → ℕ → List ℕ
-endsOf start len zero = set (replicate (maxHeight + 1) 0) 0 start
-endsOf start len (suc d) = set (endsOf start len d) (suc d) (endAfter start len (suc d))
+-- n pins with the first d levels entered, whose codes and lengths these are; before the ends stands where the first part starts
+abbrev pub entered : ℕ → (ℕ → ℕ) → (ℕ → ℕ) → ℕ → Levels
+entered n code len d = record { pins = n; codes = filled maxHeight code d; ends = filled (maxHeight + 1) (endAfter (partsStart n) len) (suc d) }
 
--- the levels of n pins whose codes and lengths these are
+-- all of them
 unfoldable pub laidOut : ℕ → (ℕ → ℕ) → (ℕ → ℕ) → Levels
-laidOut n code len = record { pins = n; codes = codesOf code (height n); ends = endsOf (partsStart n) len (height n) }
+laidOut n code len = entered n code len (height n)

@@ -19,7 +19,7 @@ use Rattle.tree.specs.Times.{nodeTimeIn, nodeTime}
 use Rattle.tree.specs.Walks.{walkIn, walk, Answer, found, stopped, met, toward, lastOf, accessAnswer, lastLeft, searchAnswer}
 use Rattle.strip.specs.Lists.{firstLower}
 use Rattle.strip.specs.Outcomes.{Outcome, gives, refuses, verdict}
-use Rattle.strip.specs.Layout.{maxPins, maxHeight, header, entry, endAfter, codesOf, endsOf, laidOut}
+use Rattle.strip.specs.Layout.{maxPins, maxHeight, header, entry, endAfter, filled, laidOut}
 use Rattle.strip.specs.Image.{codeFor, partFor, joined, stripOf, image}
 use Rattle.strip.specs.Opening.{codeTests, opening}
 use Rattle.strip.specs.Calls.{packAnswer, packOutput, accessOf, searchOf, upToOf}
@@ -114,6 +114,6 @@ all (c ∷ cs) = passes c && all cs
 pub marked-pass : all marked ≡ true
 unfolding bits number sum fixed bytesOf padded kindOf rest layers kindBits widthIn widest bestChunked chosen fixedAt fetchLayers chunkedAt fetched height
     rootPlace childOf stretchIn stretch rank ordered timeOf timeAbove stored storedFrom partOf fetchedAt nodeTimeIn nodeTime walkIn walk met toward lastOf
-    accessAnswer lastLeft searchAnswer firstLower verdict endAfter codesOf endsOf laidOut codeFor partFor joined stripOf codeTests opening packAnswer packOutput
+    accessAnswer lastLeft searchAnswer firstLower verdict endAfter filled laidOut codeFor partFor joined stripOf codeTests opening packAnswer packOutput
     accessOf searchOf upToOf
 marked-pass = refl

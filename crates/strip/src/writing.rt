@@ -5,7 +5,7 @@ ghost use mathlib.Core.List.{_++_};
 ghost use Prim.Native.Nat.{ℕ, _+_, _*_, _^_, _<_, _≤_};
 ghost use lib.ListN.{length, drop, getD};
 ghost use Rattle.tree.specs.Shape.{height};
-ghost use Rattle.strip.specs.Layout.{header, entry, partsStart};
+ghost use Rattle.strip.specs.Layout.{maxHeight, header, entry, partsStart};
 ghost use Rattle.strip.specs.Image.{partFor, planned, joined, stripOf};
 ghost use Rattle.strip.specs.Written.{replaced, entryIn};
 
@@ -37,7 +37,7 @@ fn put_entry(out: &mut [u8], at: usize, code: u8, bytes: usize)
 
 // Writes the entries of the levels after the header.
 fn put_entries(out: &mut [u8], levels: Levels)
-    requires { ⌜ (height (levels .pins) ≤ 16) × (partsStart (levels .pins) ≤ length (now out)) ⌝ }
+    requires { ⌜ (height (levels .pins) ≤ maxHeight) × (partsStart (levels .pins) ≤ length (now out)) ⌝ }
     requires { ⌜ ((d : ℕ) → d < height (levels .pins) → getD (levels .ends) d 0 ≤ getD (levels .ends) (d + 1) 0) ⌝ }
     ensures { λ r. ⌜ now (out .exit) ≡ replaced (now (out .entry)) 7 (joined (entryIn levels) (height (levels .pins))) ⌝ }
 {

@@ -8,9 +8,9 @@ use native.Mathlib.Decide.{decLt}
 use lib.ListN.{getD}
 use Rattle.tree.specs.Shape.{height}
 use Rattle.strip.specs.Outcomes.{verdict}
-use Rattle.strip.specs.Layout.{pinsOf, codeAt, lengthAt, partsStart, endAfter, laidOut}
+use Rattle.strip.specs.Layout.{pinsOf, codeAt, lengthAt, partsStart, endAfter, entered, laidOut}
 use Rattle.strip.specs.Opening.{codeTests, lengthByEntries, lengthTest, levelTests, levelsIn}
-use Rattle.strip.proofs.Layouts.{tall, entered, entered-none, entered-next, entered-all, end-start, end-next, laid-fits}
+use Rattle.strip.proofs.Layouts.{tall, entered-none, entered-next, entered-all, end-start, end-next, laid-fits}
 use Rattle.strip.proofs.Openings.{codes-end, codes-refused, codes-pass, length-differs, length-agrees}
 use Rattle.strip.proofs.opening.levels_of.Statement.{statement}
 use Rattle.strip.proofs.opening.levels_of.Tie as tie

@@ -6,9 +6,9 @@ use lib.ListN.{length, getD}
 use Rattle.codes.specs.declared.choosing.Choice.{Choice}
 use Rattle.codes.specs.Codes.{Within}
 use Rattle.codes.specs.Choice.{chosen}
-use Rattle.strip.specs.Layout.{partsStart, endAfter}
+use Rattle.strip.specs.Layout.{partsStart, endAfter, entered}
 use Rattle.strip.specs.Image.{valuesAt, codeFor, lengthFor}
-use Rattle.strip.proofs.Layouts.{tall, entered, entered-none, entered-next, entered-all, end-start, end-next}
+use Rattle.strip.proofs.Layouts.{tall, entered-none, entered-next, entered-all, end-start, end-next}
 use Rattle.strip.proofs.Plans.{level-next, level-short, level-code, length-chosen, size-small}
 use Rattle.strip.proofs.packing.plan.Statement.{statement}
 use Rattle.strip.proofs.packing.plan.Tie as tie

@@ -43,12 +43,12 @@ part-result-start c =
 part-result-end : tie.Need-part-result-end
 part-result-end c = search needs
 
--- a level's end less its start is its count
-between : (n l : ℕ) → 1 ≤ l → min n (2 * firstOf l - 1) - (firstOf l - 1) ≡ countOf n l
-between n (suc k) h =
+-- a level's end less what stands before it is its count
+between : (n l end first : ℕ) → 1 ≤ l → first ≡ firstOf l → end ≡ min n (2 * first - 1) → end - (first - 1) ≡ countOf n l
+between n (suc k) end first h p q =
     let e : suc k - 1 ≡ k = omega arith in
-    let q : 2 ^ suc k ≡ 2 * 2 ^ k = omega arith in
-    rw (e, q) (less (min n (2 * 2 ^ k - 1)) (2 ^ k) (pow-pos k))
+    let r : 2 ^ suc k ≡ 2 * 2 ^ k = omega arith in
+    rw (q, p, e, r) (less (min n (2 * 2 ^ k - 1)) (2 ^ k) (pow-pos k))
   where
     less : (m p : ℕ) → 1 ≤ p → m - (p - 1) ≡ suc m - p
     less m p h = omega arith
@@ -56,7 +56,9 @@ between n (suc k) h =
 returns : tie.Need-returns
 returns c =
     let a = c .before .before .before .before .args in
-    rw (c .before .least .ensures, c .before .before .power-of-two .ensures, between (length (a .values .now)) (a .level) (c .before .before .before .before .pre .0))
+    let end = c .before .least in
+    let first = c .before .before .power-of-two in
+    rw (between (length (a .values .now)) (a .level) (end .result) (first .result) (c .before .before .before .before .pre .0) (first .ensures) (end .ensures), first .ensures)
 
 pub level-values-spec : {M : Type 1} → statement M
 level-values-spec =
