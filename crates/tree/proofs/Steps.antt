@@ -17,6 +17,7 @@ use Rattle.tree.specs.Shape.{rootPlace, childOf, sideOf, stretch, rank}
 use Rattle.tree.specs.Levels.{fetchedAt, Fits}
 use Rattle.tree.specs.Times.{Time, at, refused, under, known, nodeTime}
 use Rattle.tree.specs.Walks.{walk, Answer, found, stopped, met, towardFrom, toward, lastOf, accessAnswer, never, lastLeft, searchAnswer}
+use Rattle.tree.specs.Standing.{Stands, accessFrom}
 use Rattle.tree.proofs.Heights.{place-in}
 use Rattle.tree.proofs.Stretches.{stretch-root, stretch-child, side-in, pins-of-node, node-of-pins}
 use Rattle.tree.proofs.NodeTimes.{time-above, time-step}
@@ -24,15 +25,6 @@ use Rattle.tree.proofs.NodeFetches.{fetched-at, Level, level-fits}
 use Rattle.tree.proofs.Walks.{child-bounds, parent-of, walk-out, walk-on, toward-on, met-fine, met-refused}
 
 -- ---- where a walk stands
-
--- at node v, `depth` levels down, with the stretch under it and its parent's time
-pub record Stands (levels : Levels) (s : List ℕ) (v depth : ℕ) (here : Stretch) (above : ℕ) : Type 0 where
-  pub one : 1 ≤ v
-  pub low : 2 ^ depth ≤ v
-  pub high : v < 2 * 2 ^ depth
-  pub under : stretch (levels .pins) v ≡ here
-  pub inside : here .start + here .pins ≤ levels .pins
-  pub parent : nodeTime (fetchedAt levels s) (v / 2) ≡ at above
 
 pub stands-root : (levels : Levels) (s : List ℕ) → Stands levels s 1 0 (record { start = 0; pins = levels .pins }) 0
 stands-root levels s = record {
@@ -125,12 +117,6 @@ side-holds s i r e lo hi ne =
       | yes h ↦ rw (lt-ltb r i h) (omega arith)
       | no h ↦ let k : i < r = omega arith in rw (le-ltb r i (omega arith)) (omega arith)
     ]
-
--- what an access at i answers that goes on from node v, with k nodes opened
-abbrev pub accessFrom : ℕ → (ℕ → Time) → ℕ → ℕ → ℕ → Answer
-accessFrom n time i k v =
-    let nodes = towardFrom n i v in
-    met time (found (known (time (lastOf (v / 2) nodes))) (k + length nodes)) nodes
 
 module _ (n : ℕ) (time : ℕ → Time) (i : ℕ) where
   pub access-start : accessAnswer n time i ≡ accessFrom n time i 0 1

@@ -1,11 +1,15 @@
--- What the tree means. A reader of the public contracts needs Shape, Lists, Stored, Levels, Times and Walks; Marked has lists
--- with what their nodes store, Promises what is shown besides the contracts. Filled is cited by a private function alone.
+-- What the tree means. A reader of the public contracts needs Shape, Lists, Stored, Levels, Times, Walks, Buffers and Listing;
+-- Marked has lists with what their nodes store, Promises what is shown besides the contracts. Filled and Standing are cited by
+-- private functions alone.
 pub mod Shape
 pub mod Lists
 pub mod Stored
 pub mod Levels
 pub mod Times
 pub mod Walks
+pub mod Buffers
+pub mod Listing
 pub mod Marked
 pub mod Promises
 pub mod Filled
+pub mod Standing

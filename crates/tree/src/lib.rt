@@ -1,11 +1,14 @@
 // The difference tree: the shape of the heap, its construction, and the walks over its levels.
 mod building; // the stored values of a list, in node order
+mod listing; // the times at all positions
 mod nodes; // where the levels stand in a strip; one node's stored value and time
 mod shape; // height, root place, stretches and ranks
 mod walking; // access and search
 
 pub use building::construct;
 pub use building::level_values;
+pub use listing::Listed;
+pub use listing::list;
 pub use nodes::GREATEST;
 pub use nodes::Levels;
 pub use nodes::Refusal;

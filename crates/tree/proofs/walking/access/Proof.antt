@@ -9,7 +9,8 @@ use Rattle.tree.specs.Levels.{fetchedAt}
 use Rattle.tree.specs.Times.{at, nodeTime, timeOpened}
 use Rattle.tree.specs.Walks.{accessAnswer}
 use Rattle.tree.proofs.Stretches.{side-in}
-use Rattle.tree.proofs.Steps.{Stands, stands-root, stands-node, stands-rank, stands-level, stands-open, stands-child, side-holds, accessFrom, access-start, access-end, access-refused, access-step}
+use Rattle.tree.specs.Standing.{Stands, accessFrom}
+use Rattle.tree.proofs.Steps.{stands-root, stands-node, stands-rank, stands-level, stands-open, stands-child, side-holds, access-start, access-end, access-refused, access-step}
 use Prim.Native.Nat.{_+_, _-_, _≤_, _<_}
 use Rattle.tree.proofs.Heights.{place-in}
 use Rattle.tree.proofs.walking.access.Statement.{statement}

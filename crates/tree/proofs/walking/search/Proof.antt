@@ -9,7 +9,8 @@ use Rattle.tree.specs.Levels.{fetchedAt}
 use Rattle.tree.specs.Times.{at, nodeTime, timeOpened}
 use Rattle.tree.specs.Walks.{searchAnswer}
 use Rattle.tree.proofs.Stretches.{side-in}
-use Rattle.tree.proofs.Steps.{Stands, stands-root, stands-pins, stands-place, stands-rank, stands-level, stands-open, stands-child, searchFrom, search-start, search-end, search-refused, search-step}
+use Rattle.tree.specs.Standing.{Stands}
+use Rattle.tree.proofs.Steps.{stands-root, stands-pins, stands-place, stands-rank, stands-level, stands-open, stands-child, searchFrom, search-start, search-end, search-refused, search-step}
 use mathlib.Core.Logic.{⊎-elim}
 use mathlib.Core.Bool.{cond}
 use borrow.Author.Tests.{lt-ltb, le-ltb}

@@ -1,0 +1,42 @@
+-- Entries written into a buffer one after the other.
+use mathlib.Core.Path.{_≡_, sym, ap, _∙_}
+use mathlib.Core.List.{List, [], _∷_, _++_, append-assoc, append-nil}
+use Prim.Native.Nat.{ℕ, suc, _+_, _≤_, _<_}
+use native.Mathlib.Nat.{add-zero}
+use native.Mathlib.Omega.{arith}
+use lib.ListN.{length, take, drop, set, length-append, length-take, length-drop, take-append-drop}
+use lib.Seq.{take-at, drop-at, drop-drop, length-take-le, append-snoc, sets-eq}
+use Rattle.tree.specs.Buffers.{replaced}
+
+pub length-replaced : (out : List ℕ) (a : ℕ) (p : List ℕ) → a + length p ≤ length out → length (replaced out a p) ≡ length out
+length-replaced out a p h =
+    rw (length-append (take a out ++ p) (drop (a + length p) out), length-append (take a out) p, length-take a out, length-drop (a + length p) out) (omega arith)
+
+pub replaced-none : (out : List ℕ) (a : ℕ) → replaced out a [] ≡ out
+replaced-none out a = rw (append-nil (take a out), add-zero a) (take-append-drop a out)
+
+-- further entries where the first ones end
+pub replaced-more : (out : List ℕ) (a b : ℕ) (p q : List ℕ) → a + length p ≡ b → b ≤ length out → replaced (replaced out a p) b q ≡ replaced out a (p ++ q)
+replaced-more out a b p q e h =
+    let front = take a out ++ p in
+    let whole : replaced out a p ≡ front ++ drop b out = rw e in
+    let len : length front ≡ b = rw (length-append (take a out) p, length-take-le a out (omega arith)) e in
+    let far : b + length q ≡ a + length (p ++ q) = rw (length-append p q) (omega arith) in
+    rw (
+      whole,
+      take-at front (drop b out) b len,
+      ← (drop-drop (length q) b (front ++ drop b out)),
+      drop-at front (drop b out) b len,
+      drop-drop (length q) b out,
+      append-assoc (take a out) p q,
+      far,
+    )
+
+-- entries, one more by itself, and entries after that
+pub replaced-around : (out : List ℕ) (a b : ℕ) (p : List ℕ) (x : ℕ) (q : List ℕ) → a + length p ≡ b → b < length out
+    → replaced (set (replaced out a p) b x) (b + 1) q ≡ replaced out a (p ++ x ∷ q)
+replaced-around out a b p x q e h =
+    let len = length-replaced out a p (omega arith) in
+    let one : set (replaced out a p) b x ≡ replaced (replaced out a p) b (x ∷ []) = sets-eq (x ∷ []) (replaced out a p) b (omega arith) in
+    let two = one ∙ replaced-more out a b p (x ∷ []) e (omega arith) in
+    rw two (replaced-more out a (b + 1) (p ++ x ∷ []) q (omega (arith, length-append p (x ∷ []))) (omega arith) ∙ ap (replaced out a) (append-snoc p x q))

@@ -1,0 +1,180 @@
+-- A listing by stretches: what is listed of a left side, the root and a right side, one after the other.
+use mathlib.Core.Path.{_≡_, refl, sym, ap, _∙_}
+use mathlib.Core.Bool.{Bool, true, false}
+use mathlib.Core.List.{List, [], _∷_, _++_, append-nil}
+use Prim.Native.Nat.{ℕ, zero, suc, _+_, _-_, _*_, _≤_, _<_}
+use native.Mathlib.Nat.{add-zero, add-suc}
+use native.Mathlib.Omega.{arith}
+use lib.ListN.{length, set}
+use borrow.Author.Tests.{lt-ltb, le-ltb}
+use Rattle.tree.specs.declared.shape.Stretch.{Stretch}
+use Rattle.tree.specs.declared.nodes.Levels.{Levels}
+use Rattle.tree.specs.Shape.{rootPlace, childOf, sideOf, rank}
+use Rattle.tree.specs.Levels.{fetchedAt}
+use Rattle.tree.specs.Times.{at, refused, nodeTime}
+use Rattle.tree.specs.Walks.{Answer, found, stopped}
+use Rattle.tree.specs.Buffers.{replaced}
+use Rattle.tree.specs.Listing.{Stop, nowhere, at as stop-at, accesses, timeThen, timesFrom, stopOr, stopFrom}
+use Rattle.tree.specs.Standing.{Stands, Reaches}
+use Rattle.tree.proofs.Buffers.{replaced-around}
+use Rattle.tree.proofs.Steps.{stands-place, stands-rank, stands-node, stands-child, access-end, access-refused, access-step}
+
+-- what a later stretch adds, where the listing gets to it
+abbrev pub orLater : Stop → Stop → Stop
+orLater nowhere later = later
+orLater (stop-at i r c) later = stop-at i r c
+
+abbrev pub unlessAt : Stop → List ℕ → List ℕ
+unlessAt nowhere later = later
+unlessAt (stop-at i r c) later = []
+
+-- the position where the listing ends, with `last` after the last one
+abbrev pub endOf : Stop → ℕ → ℕ
+endOf nowhere last = last
+endOf (stop-at i r c) last = i
+
+module _ (answer : ℕ → Answer) where
+  pub times-end : (k i : ℕ) → i + length (timesFrom answer k i) ≡ endOf (stopFrom answer k i) (i + k)
+  unfolding timesFrom stopFrom
+  times-end zero i = refl
+  times-end (suc k) i = go (answer i) (timesFrom answer k (suc i)) (stopFrom answer k (suc i)) (times-end k (suc i))
+    where
+      at-end : (z : Stop) → endOf z (suc i + k) ≡ endOf z (i + suc k)
+      at-end nowhere = omega arith
+      at-end (stop-at j r c) = refl
+
+      go : (x : Answer) (ts : List ℕ) (z : Stop) → suc i + length ts ≡ endOf z (suc i + k) → i + length (timeThen x ts) ≡ endOf (stopOr i x z) (i + suc k)
+      go (found t j) ts z e = let f : i + suc (length ts) ≡ suc i + length ts = omega arith in f ∙ e ∙ at-end z
+      go (stopped r c) ts z e = omega arith
+
+  -- two stretches one after the other
+  stop-both : (a b i : ℕ) → stopFrom answer (b + a) i ≡ orLater (stopFrom answer a i) (stopFrom answer b (i + a))
+  unfolding stopFrom
+  stop-both zero b i = rw (add-zero b, add-zero i)
+  stop-both (suc a) b i =
+      let e : suc i + a ≡ i + suc a = omega arith in
+      rw (add-suc b a) (go (answer i) (stopFrom answer (b + a) (suc i)) (stopFrom answer a (suc i)) (rw e at (stop-both a b (suc i))))
+    where
+      go : (x : Answer) (all first : Stop) → all ≡ orLater first (stopFrom answer b (i + suc a)) → stopOr i x all ≡ orLater (stopOr i x first) (stopFrom answer b (i + suc a))
+      go (found t j) all first e = e
+      go (stopped r c) all first e = refl
+
+  times-both : (a b i : ℕ) → timesFrom answer (b + a) i ≡ timesFrom answer a i ++ unlessAt (stopFrom answer a i) (timesFrom answer b (i + a))
+  unfolding timesFrom stopFrom
+  times-both zero b i = rw (add-zero b, add-zero i)
+  times-both (suc a) b i =
+      let e : suc i + a ≡ i + suc a = omega arith in
+      rw (add-suc b a) (go (answer i) (timesFrom answer (b + a) (suc i)) (timesFrom answer a (suc i)) (stopFrom answer a (suc i)) (rw e at (times-both a b (suc i))))
+    where
+      go : (x : Answer) (all first : List ℕ) (z : Stop) → all ≡ first ++ unlessAt z (timesFrom answer b (i + suc a))
+          → timeThen x all ≡ timeThen x first ++ unlessAt (stopOr i x z) (timesFrom answer b (i + suc a))
+      go (found t j) all first z e = ap (λ (l : List ℕ). t ∷ l) e
+      go (stopped r c) all first z e = refl
+
+  -- a position between them that has a time
+  stop-around : (a b i x k : ℕ) → answer (i + a) ≡ found x k → stopFrom answer (suc b + a) i ≡ orLater (stopFrom answer a i) (stopFrom answer b (suc (i + a)))
+  unfolding stopFrom
+  stop-around a b i x k e = stop-both a (suc b) i ∙ ap (λ (y : Answer). orLater (stopFrom answer a i) (stopOr (i + a) y (stopFrom answer b (suc (i + a))))) e
+
+  times-around : (a b i x k : ℕ) → answer (i + a) ≡ found x k
+      → timesFrom answer (suc b + a) i ≡ timesFrom answer a i ++ unlessAt (stopFrom answer a i) (x ∷ timesFrom answer b (suc (i + a)))
+  unfolding timesFrom
+  times-around a b i x k e = times-both a (suc b) i ∙ ap (λ (y : Answer). timesFrom answer a i ++ unlessAt (stopFrom answer a i) (timeThen y (timesFrom answer b (suc (i + a))))) e
+
+  stop-here : (k i r c : ℕ) → 1 ≤ k → answer i ≡ stopped r c → stopFrom answer k i ≡ stop-at i r c
+  unfolding stopFrom
+  stop-here zero i r c h e = absurd (omega arith)
+  stop-here (suc k) i r c h e = ap (λ (y : Answer). stopOr i y (stopFrom answer k (suc i))) e
+
+  times-here : (k i r c : ℕ) → 1 ≤ k → answer i ≡ stopped r c → timesFrom answer k i ≡ []
+  unfolding timesFrom
+  times-here zero i r c h e = absurd (omega arith)
+  times-here (suc k) i r c h e = ap (λ (y : Answer). timeThen y (timesFrom answer k (suc i))) e
+
+-- ---- at a node
+
+module _ {levels : Levels} {s : List ℕ} {v depth start pins above : ℕ}
+    (w : Stands levels s v depth (record { start = start; pins = pins }) above) (reach : Reaches levels s v depth (record { start = start; pins = pins })) (some : 1 ≤ pins) where
+  node : v ≤ levels .pins
+  node = stands-node w some
+
+  pub listed-refused : (r u : ℕ) → nodeTime (fetchedAt levels s) v ≡ refused r u
+      → (stopFrom (accesses levels s) pins start ≡ stop-at start r u) × (timesFrom (accesses levels s) pins start ≡ [])
+  listed-refused r u e =
+      let z : accesses levels s start ≡ stopped r u =
+      sym (reach start (omega arith) (omega arith)) ∙ access-refused (levels .pins) (nodeTime (fetchedAt levels s)) start depth v r u (w .one) node e in
+      (stop-here (accesses levels s) pins start r u some z, times-here (accesses levels s) pins start r u some z)
+
+  module _ (x : ℕ) (e : nodeTime (fetchedAt levels s) v ≡ at x) (place : ℕ) (p : place ≡ rootPlace pins) where
+    place-is : (1 ≤ place) × (place ≤ pins)
+    place-is = rw p (stands-place w node)
+
+    rank-is : rank (levels .pins) v ≡ start + (place - 1)
+    rank-is = stands-rank w ∙ omega (arith, place-is)
+
+    -- accesses to a side come to its root
+    reach-child : (right : Bool) → Reaches levels s (childOf right v) (depth + 1) (sideOf right (record { start = start; pins = pins }))
+    reach-child true i lo hi =
+        let r : rank (levels .pins) v < i = omega (arith, rank-is, place-is) in
+        rw (lt-ltb (rank (levels .pins) v) i r) at (sym (access-step (levels .pins) (nodeTime (fetchedAt levels s)) i depth v x (w .one) node e (λ z. omega arith)))
+        ∙ reach i (omega arith) (omega (arith, place-is))
+    reach-child false i lo hi =
+        let r : i < rank (levels .pins) v = omega (arith, rank-is, place-is) in
+        rw (le-ltb (rank (levels .pins) v) i (omega arith)) at (sym (access-step (levels .pins) (nodeTime (fetchedAt levels s)) i depth v x (w .one) node e (λ z. omega arith)))
+        ∙ reach i (omega arith) (omega (arith, place-is))
+
+    pub stands-left : Stands levels s (2 * v) (depth + 1) (record { start = start; pins = place - 1 }) x × Reaches levels s (2 * v) (depth + 1) (record { start = start; pins = place - 1 })
+    unfolding childOf
+    stands-left = rw p (stands-child w false x node e, reach-child false)
+
+    pub stands-right : Stands levels s (2 * v + 1) (depth + 1) (record { start = start + place; pins = pins - place }) x
+        × Reaches levels s (2 * v + 1) (depth + 1) (record { start = start + place; pins = pins - place })
+    unfolding childOf
+    stands-right = rw p (stands-child w true x node e, reach-child true)
+
+    module _ (before left : List ℕ) (done : left ≡ replaced before start (timesFrom (accesses levels s) (place - 1) start)) where
+      split : suc (pins - place) + (place - 1) ≡ pins
+      split = omega (arith, place-is)
+
+      next : suc (start + (place - 1)) ≡ start + place
+      next = omega (arith, place-is)
+
+      time-here : accesses levels s (start + (place - 1)) ≡ found x (depth + 1)
+      time-here =
+          sym (reach (start + (place - 1)) (omega arith) (omega (arith, place-is)))
+          ∙ access-end (levels .pins) (nodeTime (fetchedAt levels s)) (start + (place - 1)) depth v x (w .one) node e rank-is
+
+      stop-is : stopFrom (accesses levels s) pins start ≡ orLater (stopFrom (accesses levels s) (place - 1) start) (stopFrom (accesses levels s) (pins - place) (start + place))
+      stop-is = rw (split, next) at (stop-around (accesses levels s) (place - 1) (pins - place) start x (depth + 1) time-here)
+
+      times-are : timesFrom (accesses levels s) pins start
+          ≡ timesFrom (accesses levels s) (place - 1) start ++ unlessAt (stopFrom (accesses levels s) (place - 1) start) (x ∷ timesFrom (accesses levels s) (pins - place) (start + place))
+      times-are = rw (split, next) at (times-around (accesses levels s) (place - 1) (pins - place) start x (depth + 1) time-here)
+
+      -- the left side ends the listing
+      pub listed-left : (z : Stop) (i r c : ℕ) → z ≡ stop-at i r c → z ≡ stopFrom (accesses levels s) (place - 1) start
+          → (z ≡ stopFrom (accesses levels s) pins start) × (left ≡ replaced before start (timesFrom (accesses levels s) pins start))
+      listed-left z i r c a b =
+          let q : stopFrom (accesses levels s) (place - 1) start ≡ stop-at i r c = sym b ∙ a in (
+            a ∙ sym (stop-is ∙ ap (λ (y : Stop). orLater y (stopFrom (accesses levels s) (pins - place) (start + place))) q),
+            done ∙ ap (replaced before start) (sym (times-are
+                ∙ ap (λ (y : Stop). timesFrom (accesses levels s) (place - 1) start ++ unlessAt y (x ∷ timesFrom (accesses levels s) (pins - place) (start + place))) q
+                ∙ append-nil (timesFrom (accesses levels s) (place - 1) start))),
+          )
+
+      -- the right side ends it, or nothing does
+      pub listed-right : nowhere ≡ stopFrom (accesses levels s) (place - 1) start → start + pins ≤ length before → (z : Stop) (after : List ℕ)
+          → z ≡ stopFrom (accesses levels s) (pins - place) (start + place)
+          → after ≡ replaced (set left (start + place - 1) x) (start + place) (timesFrom (accesses levels s) (pins - place) (start + place))
+          → (z ≡ stopFrom (accesses levels s) pins start) × (after ≡ replaced before start (timesFrom (accesses levels s) pins start))
+      listed-right q room z after a b =
+          let k : start + (place - 1) ≡ endOf (stopFrom (accesses levels s) (place - 1) start) (start + (place - 1)) = ap (λ (y : Stop). endOf y (start + (place - 1))) q in
+          let l : start + length (timesFrom (accesses levels s) (place - 1) start) ≡ start + place - 1 =
+          times-end (accesses levels s) (place - 1) start ∙ sym k ∙ omega (arith, place-is) in
+          let n : start + place - 1 + 1 ≡ start + place = omega (arith, place-is) in (
+            a ∙ sym (stop-is ∙ ap (λ (y : Stop). orLater y (stopFrom (accesses levels s) (pins - place) (start + place))) (sym q)),
+            b ∙ rw done (rw n at (replaced-around before start (start + place - 1) (timesFrom (accesses levels s) (place - 1) start) x
+                (timesFrom (accesses levels s) (pins - place) (start + place)) l (omega (arith, place-is))))
+                ∙ ap (replaced before start) (sym (times-are
+                ∙ ap (λ (y : Stop). timesFrom (accesses levels s) (place - 1) start ++ unlessAt y (x ∷ timesFrom (accesses levels s) (pins - place) (start + place))) (sym q))),
+          )

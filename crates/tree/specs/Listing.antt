@@ -1,0 +1,41 @@
+-- Listing: the times at the positions from 0 on, up to the first that access refuses.
+use mathlib.Core.List.{List, [], _∷_}
+use Prim.Native.Nat.{ℕ, zero, suc}
+use Rattle.tree.specs.declared.listing.Listed.{Listed}
+use Rattle.tree.specs.declared.listing.Listed.the-variants as listing
+use Rattle.tree.specs.declared.nodes.Levels.{Levels}
+use Rattle.tree.specs.Levels.{fetchedAt}
+use Rattle.tree.specs.Times.{numberOf, nodeOf, nodeTime}
+use Rattle.tree.specs.Walks.{Answer, found, stopped, accessAnswer}
+
+-- what access answers at each position, by the parts of the levels
+abbrev pub accesses : Levels → List ℕ → ℕ → Answer
+accesses levels s = accessAnswer (levels .pins) (nodeTime (fetchedAt levels s))
+
+-- what ends a listing early: the position, the number of its refusal and what that carries
+pub data Stop : Type 0 where
+  nowhere : Stop
+  at : ℕ → ℕ → ℕ → Stop
+
+-- by what access answers at a position: its time, then the later ones
+abbrev pub timeThen : Answer → List ℕ → List ℕ
+timeThen (found t k) later = t ∷ later
+timeThen (stopped r c) later = []
+
+-- the times of k positions from i on, as far as access is not refused
+unfoldable pub timesFrom : (ℕ → Answer) → ℕ → ℕ → List ℕ
+timesFrom answer zero i = []
+timesFrom answer (suc k) i = timeThen (answer i) (timesFrom answer k (suc i))
+
+abbrev pub stopOr : ℕ → Answer → Stop → Stop
+stopOr i (found t k) later = later
+stopOr i (stopped r c) later = at i r c
+
+-- the first of these positions at which it is
+unfoldable pub stopFrom : (ℕ → Answer) → ℕ → ℕ → Stop
+stopFrom answer zero i = nowhere
+stopFrom answer (suc k) i = stopOr i (answer i) (stopFrom answer k (suc i))
+
+abbrev pub listed : Listed → Stop
+listed listing.All = nowhere
+listed (listing.Refused i r) = at i (numberOf r) (nodeOf r)

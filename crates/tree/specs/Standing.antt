@@ -1,0 +1,33 @@
+-- Where a walk stands, as the functions that go down the tree keep it.
+use mathlib.Core.Path.{_≡_}
+use mathlib.Core.List.{List}
+use Prim.Native.Nat.{ℕ, _+_, _*_, _/_, _^_, _≤_, _<_}
+use lib.ListN.{length}
+use Rattle.tree.specs.declared.shape.Stretch.{Stretch}
+use Rattle.tree.specs.declared.nodes.Levels.{Levels}
+use Rattle.tree.specs.Shape.{stretch}
+use Rattle.tree.specs.Levels.{fetchedAt}
+use Rattle.tree.specs.Times.{Time, at, known, nodeTime}
+use Rattle.tree.specs.Walks.{Answer, found, met, towardFrom, lastOf}
+use Rattle.tree.specs.Listing.{accesses}
+
+-- at node v, `depth` levels down, with the stretch under it and its parent's time
+pub record Stands (levels : Levels) (s : List ℕ) (v depth : ℕ) (here : Stretch) (above : ℕ) : Type 0 where
+  pub one : 1 ≤ v
+  pub low : 2 ^ depth ≤ v
+  pub high : v < 2 * 2 ^ depth
+  pub under : stretch (levels .pins) v ≡ here
+  pub inside : here .start + here .pins ≤ levels .pins
+  pub parent : nodeTime (fetchedAt levels s) (v / 2) ≡ at above
+
+-- what an access at i answers that goes on from node v, with k nodes opened
+abbrev pub accessFrom : ℕ → (ℕ → Time) → ℕ → ℕ → ℕ → Answer
+accessFrom n time i k v =
+    let nodes = towardFrom n i v in
+    met time (found (known (time (lastOf (v / 2) nodes))) (k + length nodes)) nodes
+
+-- accesses to the stretch under node v come to it
+abbrev pub Reaches : Levels → List ℕ → ℕ → ℕ → Stretch → Type 0
+Reaches levels s v depth here =
+    (i : ℕ) → here .start ≤ i → i < here .start + here .pins
+    → accessFrom (levels .pins) (nodeTime (fetchedAt levels s)) i depth v ≡ accesses levels s i
