@@ -6,6 +6,7 @@ use mathlib.Core.List.{List, [], _∷_}
 use Prim.Native.Nat.{ℕ, _+_}
 use lib.Dec.{eqb}
 use lib.ListN.{length}
+use Rattle.codes.specs.Lists.{same}
 use Rattle.codes.specs.Bits.{bits, number, sum, fixed, bytesOf, padded}
 use Rattle.codes.specs.Codes.{kindOf, rest, layers, kindBits, part}
 use Rattle.codes.specs.Choice.{widthIn, widest, bestChunked, chosen}
@@ -25,12 +26,6 @@ marked =
     ∷ record { values = 0 ∷ []; code = 0; bytes = [] }
     ∷ record { values = 7 ∷ 0 ∷ 0 ∷ 0 ∷ []; code = 3; bytes = 0xe0 ∷ 0x00 ∷ [] }
     ∷ []
-
-abbrev pub same : List ℕ → List ℕ → Bool
-same [] [] = true
-same [] (y ∷ ys) = false
-same (x ∷ xs) [] = false
-same (x ∷ xs) (y ∷ ys) = eqb x y && same xs ys
 
 abbrev is : ℕ → Fetched → Bool
 is v (value x) = eqb x v

@@ -30,7 +30,8 @@ fn put_fixed(out: &mut [u8], writer: Writer, w: usize, values: &[u32]) -> Writer
     p
 }
 
-fn copy_values(work: &mut [u32], values: &[u32])
+// Copies the values to the front.
+pub fn copy_values(work: &mut [u32], values: &[u32])
     requires { ⌜ length (now values) ≤ length (now work) ⌝ }
     ensures { λ r. ⌜ now (work .exit) ≡ now (values .entry) ++ drop (length (now (values .entry))) (now (work .entry)) ⌝ }
 {

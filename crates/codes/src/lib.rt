@@ -10,6 +10,7 @@ mod writing; // bits into a buffer, one after the other
 
 pub use choosing::Choice;
 pub use choosing::choose;
+pub use encoding::copy_values;
 pub use encoding::encode;
 pub use fetching::Found;
 pub use fetching::fetch;

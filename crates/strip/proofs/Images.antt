@@ -12,14 +12,13 @@ use Rattle.codes.specs.declared.kinds.Kind.the-variants.{Fixed, Chunked, Refuse
 use Rattle.codes.specs.Codes.{kindOf, Within, Holds}
 use Rattle.tree.specs.Shape.{height}
 use Rattle.tree.specs.Levels.{partOf}
-use Rattle.strip.specs.Outcomes.{Outcome, Test, gives, verdict}
+use Rattle.strip.specs.Outcomes.{Outcome, Test, gives, verdict, after}
 use Rattle.strip.specs.Layout.{header, pinsOf, codeAt, lengthAt, partsStart, endAfter}
 use Rattle.strip.specs.Image.{valuesAt, codeFor, partFor, lengthFor, planned, entryFor, joined, stripOf}
 use Rattle.strip.specs.Opening.{headerTests, isRefused, codeTests, lengthByEntries, lengthTest, levelTests, levelsIn, opening}
 use Rattle.strip.proofs.Pieces.{joined-split, length-joined}
 use Rattle.strip.proofs.Layouts.{end-same, laid-same}
 use Rattle.strip.proofs.Plans.{plan-at, length-strip, parts-end, level-short, level-holds, length-chosen, size-small}
-use Rattle.strip.proofs.Verdicts.{after}
 use Rattle.strip.proofs.Openings.{header-passes, codes-step, length-agrees, opening-steps}
 
 -- a number of four bytes, read back

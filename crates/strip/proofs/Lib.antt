@@ -1,6 +1,7 @@
 -- Laws that belong to no one function, each file about what its name says; Promises proves what specs/Promises states.
+pub mod Checks
 pub mod Counts
-pub mod Falls
+pub mod Gaps
 pub mod Images
 pub mod Layouts
 pub mod Marked
@@ -8,4 +9,6 @@ pub mod Openings
 pub mod Pieces
 pub mod Plans
 pub mod Promises
+pub mod Readings
+pub mod Same
 pub mod Verdicts

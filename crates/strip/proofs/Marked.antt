@@ -2,28 +2,20 @@
 use mathlib.Core.Path.{_≡_, refl}
 use mathlib.Core.Bool.{Bool, true, false, _&&_}
 use mathlib.Core.List.{List, [], _∷_}
+use mathlib.Core.Option.{Option, none, some}
 use Prim.Native.Nat.{ℕ, zero, suc, _<_}
 use native.Mathlib.Omega.{arith}
 use lib.Dec.{T, eqb, eqb→eq}
 use lib.ListN.{length, getD, replicate, length-replicate}
 use borrow.Author.Tests.{lt-ltb, ne-eqb}
-use Rattle.codes.specs.Marked.{same}
+use Rattle.codes.specs.Lists.{same}
 use Rattle.tree.specs.Shape.{height, rootPlace}
 use Rattle.tree.specs.Walks.{Answer, found, stopped}
 use Rattle.strip.specs.Outcomes.{Outcome, gives, refuses, verdict}
 use Rattle.strip.specs.Layout.{maxPins}
-use Rattle.strip.specs.Calls.{packAnswer, packOutput, accessOf, searchOf, upToOf}
-use Rattle.strip.specs.Marked.{Case, packs, accesses, searches, counts, root, tall, Says, given, is, passes, all, marked, marked-pass}
-
-both : (a b : Bool) → T (a && b) → T a × T b
-both true b h = (tt, h)
-both false b h = absurd h
-
-same-lists : (xs ys : List ℕ) → T (same xs ys) → xs ≡ ys
-same-lists [] [] h = refl
-same-lists [] (y ∷ ys) h = absurd h
-same-lists (x ∷ xs) [] h = absurd h
-same-lists (x ∷ xs) (y ∷ ys) h = let b = both (eqb x y) (same xs ys) h in rw (eqb→eq x y (b .0), same-lists xs ys (b .1))
+use Rattle.strip.specs.Calls.{packAnswer, packOutput, accessOf, searchOf, upToOf, checkOf, unpackOf, unpackOutput, repeatOf}
+use Rattle.strip.specs.Marked.{Case, packs, accesses, searches, counts, checks, unpacks, repeats, root, tall, Says, given, is, told, passes, all, marked, marked-pass}
+use Rattle.strip.proofs.Same.{both, same-lists}
 
 same-outcomes : (a b : Outcome ℕ) → T (given a b) → a ≡ b
 same-outcomes (gives x) (gives y) h = rw (eqb→eq x y h)
@@ -37,6 +29,16 @@ same-answers (found x k) (stopped r c) h = absurd h
 same-answers (stopped r c) (found y l) h = absurd h
 same-answers (stopped r c) (stopped q d) h = let b = both (eqb r q) (eqb c d) h in rw (eqb→eq r q (b .0), eqb→eq c d (b .1))
 
+same-tellings : (a b : Outcome (Option ℕ)) → T (told a b) → a ≡ b
+same-tellings (gives none) (gives none) h = refl
+same-tellings (gives none) (gives (some j)) h = absurd h
+same-tellings (gives none) (refuses q d) h = absurd h
+same-tellings (gives (some i)) (gives none) h = absurd h
+same-tellings (gives (some i)) (gives (some j)) h = rw (eqb→eq i j h)
+same-tellings (gives (some i)) (refuses q d) h = absurd h
+same-tellings (refuses r c) (gives y) h = absurd h
+same-tellings (refuses r c) (refuses q d) h = let b = both (eqb r q) (eqb c d) h in rw (eqb→eq r q (b .0), eqb→eq c d (b .1))
+
 says : (c : Case) → T (passes c) → Says c
 says (packs xs out r after) h =
     let b = both (given (packAnswer xs (length out)) r) (same (packOutput xs out) after) h in
@@ -44,6 +46,11 @@ says (packs xs out r after) h =
 says (accesses s i r) h = same-answers (accessOf s i) r h
 says (searches s t r) h = same-answers (searchOf s t) r h
 says (counts s t r) h = same-answers (upToOf s t) r h
+says (checks s r) h = same-outcomes (checkOf s) r h
+says (unpacks s out r after) h =
+    let b = both (given (unpackOf s (length out)) r) (same (unpackOutput s out) after) h in
+    (same-outcomes (unpackOf s (length out)) r (b .0), same-lists (unpackOutput s out) after (b .1))
+says (repeats s r x) h = same-tellings (repeatOf s r) x h
 says (root n p) h = eqb→eq (rootPlace n) p h
 says (tall n k) h = eqb→eq (height n) k h
 

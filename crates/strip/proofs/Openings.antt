@@ -10,11 +10,11 @@ use borrow.Author.Tests.{lt-ltb, le-ltb, eq-eqb, ne-eqb}
 use Rattle.codes.specs.Codes.{kindOf}
 use Rattle.strip.specs.declared.opening.Opening.{Opening}
 use Rattle.strip.specs.declared.opening.Status.{Status}
-use Rattle.strip.specs.Outcomes.{gives, refuses, Test, verdict}
+use Rattle.strip.specs.Outcomes.{gives, refuses, Test, verdict, after}
 use Rattle.strip.specs.Layout.{version, twoAt, pinsOf, codeAt, partsStart}
 use Rattle.strip.specs.Opening.{hasMark, headerTests, isRefused, codeTests, lengthByEntries, lengthTest, levelTests, levelsIn, opening}
 use Rattle.strip.specs.Opened.{statusOf, opened}
-use Rattle.strip.proofs.Verdicts.{after, verdict-holds, verdict-passes, verdict-append}
+use Rattle.strip.proofs.Verdicts.{verdict-holds, verdict-passes, verdict-append}
 
 -- ---- the header, test by test
 

@@ -11,7 +11,9 @@ use lib.Seq.{take-all, take-at, drop-at, drop-drop, length-take-le}
 use borrow.Rule.Slice.PartMut.{midOf, putMid}
 use Rattle.tree.specs.declared.nodes.Levels.{Levels}
 use Rattle.strip.specs.Image.{joined}
-use Rattle.strip.specs.Written.{replaced, entryIn}
+use Rattle.tree.specs.Buffers.{replaced}
+use Rattle.tree.proofs.Buffers.{replaced-more}
+use Rattle.strip.specs.Written.{entryIn}
 
 -- what d levels have begins what more levels have
 pub joined-split : (bytes : ℕ → List ℕ) (d h : ℕ) → d < h → (later : List ℕ) × (joined bytes h ≡ joined bytes d ++ (bytes d ++ later))
@@ -46,30 +48,6 @@ joined-room bytes d h l =
 pub joined-next : (bytes : ℕ → List ℕ) (d : ℕ) → joined bytes (d + 1) ≡ joined bytes d ++ bytes d
 unfolding joined
 joined-next bytes d = rw (add-one d)
-
-pub length-replaced : (out : List ℕ) (a : ℕ) (p : List ℕ) → a + length p ≤ length out → length (replaced out a p) ≡ length out
-length-replaced out a p h =
-    rw (length-append (take a out ++ p) (drop (a + length p) out), length-append (take a out) p, length-take a out, length-drop (a + length p) out) (omega arith)
-
--- further bytes where the first ones end
-pub replaced-more : (out : List ℕ) (a b : ℕ) (p q : List ℕ) → a + length p ≡ b → b ≤ length out → replaced (replaced out a p) b q ≡ replaced out a (p ++ q)
-replaced-more out a b p q e h =
-    let front = take a out ++ p in
-    let whole : replaced out a p ≡ front ++ drop b out = rw e in
-    let len : length front ≡ b = rw (length-append (take a out) p, length-take-le a out (omega arith)) e in
-    let far : b + length q ≡ a + length (p ++ q) = rw (length-append p q) (omega arith) in
-    rw (
-      whole,
-      take-at front (drop b out) b len,
-      ← (drop-drop (length q) b (front ++ drop b out)),
-      drop-at front (drop b out) b len,
-      drop-drop (length q) b out,
-      append-assoc (take a out) p q,
-      far,
-    )
-
-pub replaced-none : (out : List ℕ) (a : ℕ) → replaced out a [] ≡ out
-replaced-none out a = rw (append-nil (take a out), add-zero a) (take-append-drop a out)
 
 -- ---- the entries of levels
 

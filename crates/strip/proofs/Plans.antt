@@ -15,9 +15,11 @@ use Rattle.tree.specs.Levels.{levelValues}
 use Rattle.tree.proofs.Promises.{stored-levels}
 use Rattle.strip.specs.Layout.{header, partsStart, endAfter}
 use Rattle.strip.specs.Image.{valuesAt, codeFor, partFor, lengthFor, planned, entryFor, joined, stripOf}
-use Rattle.strip.specs.Written.{replaced, entryIn}
+use Rattle.tree.specs.Buffers.{replaced}
+use Rattle.strip.specs.Written.{entryIn}
 use Rattle.strip.proofs.Layouts.{At, laid-end, laid-at, laid-pins}
-use Rattle.strip.proofs.Pieces.{length-joined, joined-same, joined-room, replaced-more}
+use Rattle.tree.proofs.Buffers.{replaced-more}
+use Rattle.strip.proofs.Pieces.{length-joined, joined-same, joined-room}
 
 pub level-next : (values : List ℕ) (d : ℕ) → levelValues values (d + 1) ≡ valuesAt values d
 level-next values d = rw (add-one d)

@@ -1,9 +1,9 @@
 -- Tests one after the other.
-use mathlib.Core.Path.{_≡_, refl}
-use mathlib.Core.Bool.{Bool, true, false}
+use mathlib.Core.Path.{_≡_, refl, ap}
+use mathlib.Core.Bool.{Bool, true, false, true≢false}
 use mathlib.Core.List.{List, [], _∷_, _++_}
 use Prim.Native.Nat.{ℕ}
-use Rattle.strip.specs.Outcomes.{Outcome, gives, refuses, Test, test, verdict}
+use Rattle.strip.specs.Outcomes.{Outcome, gives, refuses, Test, test, verdict, after}
 
 module _ {A : Type 0} (r c : ℕ) (ts : List Test) (a : A) where
   pub verdict-holds : (b : Bool) → b ≡ true → verdict (test b r c ∷ ts) a ≡ refuses r c
@@ -14,14 +14,25 @@ module _ {A : Type 0} (r c : ℕ) (ts : List Test) (a : A) where
   unfolding verdict
   verdict-passes b e = rw e
 
--- what comes after an outcome, where it is not refused
-abbrev pub after : {A B : Type 0} → Outcome A → (A → Outcome B) → Outcome B
-after (gives a) f = f a
-after (refuses r c) f = refuses r c
-
 -- tests after those that lead to b
 pub verdict-append : {A B : Type 0} (ts us : List Test) (a : A) (b : B) → verdict (ts ++ us) a ≡ after (verdict ts b) (λ _. verdict us a)
 unfolding verdict
 verdict-append [] us a b = refl
 verdict-append (test true r c ∷ ts) us a b = refl
 verdict-append (test false r c ∷ ts) us a b = verdict-append ts us a b
+
+-- ---- what is given is not refused, and is one thing
+
+pub gives-same : {A : Type 0} {a b : A} → gives a ≡ gives b → a ≡ b
+gives-same {A} {a} e = ap given e
+  where
+    given : Outcome A → A
+    given (gives x) = x
+    given (refuses r c) = a
+
+pub gives-refuses : {A : Type 0} {a : A} {r c : ℕ} → gives a ≡ refuses r c → ⊥
+gives-refuses {A} e = true≢false (ap given e)
+  where
+    given : Outcome A → Bool
+    given (gives x) = true
+    given (refuses r c) = false

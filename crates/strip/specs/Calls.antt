@@ -1,22 +1,29 @@
 -- What the calls answer, and what they leave in the memory that they are lent.
-use mathlib.Core.Bool.{not, cond}
+use mathlib.Core.Bool.{Bool, true, false, not, cond}
 use mathlib.Core.List.{List, [], _∷_, _++_}
-use Prim.Native.Nat.{ℕ, suc, _-_, _^_}
+use mathlib.Core.Option.{Option, none, some}
+use Prim.Native.Nat.{ℕ, zero, suc, _-_, _^_}
 use lib.Dec.{eqb, ltb}
 use lib.ListN.{length, drop}
+use Rattle.codes.specs.Lists.{same}
 use Rattle.tree.specs.declared.nodes.Levels.{Levels}
 use Rattle.tree.specs.Lists.{ordered}
 use Rattle.tree.specs.Levels.{fetchedAt}
 use Rattle.tree.specs.Times.{Time, nodeTime}
 use Rattle.tree.specs.Walks.{Answer, found, stopped, accessAnswer, searchAnswer}
+use Rattle.tree.specs.Listing.{accesses, timesFrom}
 use Rattle.strip.specs.declared.strip.Packed.{Packed}
 use Rattle.strip.specs.declared.strip.Packed.the-variants as packing
 use Rattle.strip.specs.declared.strip.Accessed.{Accessed}
 use Rattle.strip.specs.declared.strip.Accessed.the-variants as access
 use Rattle.strip.specs.declared.strip.Searched.{Searched}
 use Rattle.strip.specs.declared.strip.Searched.the-variants as search
+use Rattle.strip.specs.declared.strip.Checked.{Checked}
+use Rattle.strip.specs.declared.strip.Checked.the-variants as check
+use Rattle.strip.specs.declared.strip.Repeated.{Repeated}
+use Rattle.strip.specs.declared.strip.Repeated.the-variants as repeat
 use Rattle.strip.specs.Lists.{firstLower}
-use Rattle.strip.specs.Outcomes.{Outcome, gives, refuses, Test, test, verdict, answerAfter}
+use Rattle.strip.specs.Outcomes.{Outcome, gives, refuses, Test, test, verdict, after, answerAfter}
 use Rattle.strip.specs.Refusals.{refusalNumber, carried}
 use Rattle.strip.specs.Layout.{maxPins}
 use Rattle.strip.specs.Image.{image}
@@ -24,8 +31,9 @@ use Rattle.strip.specs.Opening.{opening}
 
 -- ---- pack
 
-abbrev pub roomTest : ℕ → List ℕ → Test
-roomTest room bytes = test (ltb room (length bytes)) 4 (length bytes)
+-- 4, of pack with the bytes needed, of unpack with the entries
+abbrev pub roomTest : ℕ → ℕ → Test
+roomTest room needed = test (ltb room needed) 4 needed
 
 -- order 1, 2, 3, 4
 abbrev pub packTests : List ℕ → ℕ → List Test
@@ -33,17 +41,17 @@ packTests xs room =
     test (eqb (length xs) 0) 1 0
     ∷ test (ltb maxPins (length xs)) 2 0
     ∷ test (not (ordered xs)) 3 (firstLower xs)
-    ∷ roomTest room (image xs)
+    ∷ roomTest room (length (image xs))
     ∷ []
 
 -- gives the image's length in bytes
 unfoldable pub packAnswer : List ℕ → ℕ → Outcome ℕ
 packAnswer xs room = verdict (packTests xs room) (length (image xs))
 
--- the output with these bytes at the front; a refusal writes nothing
+-- the output with these entries at the front; a refusal writes nothing
 abbrev pub written : Outcome ℕ → List ℕ → List ℕ → List ℕ
-written (gives n) bytes out = bytes ++ drop (length bytes) out
-written (refuses r c) bytes out = out
+written (gives n) entries out = entries ++ drop (length entries) out
+written (refuses r c) entries out = out
 
 -- the output after pack: the image at the front, later bytes as they were
 unfoldable pub packOutput : List ℕ → List ℕ → List ℕ
@@ -92,3 +100,94 @@ upToOf s t = answerAfter (opening s) (upToIn s t)
 abbrev pub searched : Searched → Answer
 searched (search.Position p k) = found p k
 searched (search.Refused r) = stopped (refusalNumber r) (carried r)
+
+-- ---- check and unpack
+
+-- a time; where access is refused the call ends, and nothing is asked of it
+abbrev pub timeOr0 : Answer → ℕ
+timeOr0 (found t k) = t
+timeOr0 (stopped r c) = 0
+
+-- access's refusal
+abbrev pub refusalTest : Answer → Test
+refusalTest (found t k) = test false 0 0
+refusalTest (stopped r c) = test true r c
+
+-- the times fall at a position
+abbrev pub fallsAt : (ℕ → ℕ) → ℕ → Bool
+fallsAt time zero = false
+fallsAt time (suc i) = ltb (time (suc i)) (time i)
+
+-- at position i access's refusal, then 11
+abbrev pub positionTests : (ℕ → Answer) → ℕ → List Test
+positionTests answer i = refusalTest (answer i) ∷ test (fallsAt (λ j. timeOr0 (answer j)) i) 11 i ∷ []
+
+-- at each of k positions from i on
+unfoldable pub positionsTests : (ℕ → Answer) → ℕ → ℕ → List Test
+positionsTests answer zero i = []
+positionsTests answer (suc k) i = positionTests answer i ++ positionsTests answer k (suc i)
+
+-- the list so read
+unfoldable pub listIn : List ℕ → Levels → List ℕ
+listIn s levels = timesFrom (accesses levels s) (levels .pins) 0
+
+-- bytes other than the list's image
+abbrev pub imageTest : List ℕ → Levels → Test
+imageTest s levels = test (not (same (image (listIn s levels)) s)) 12 0
+
+-- for i from 0, access's refusal, then 11; after all, 12
+abbrev pub checkTests : List ℕ → Levels → List Test
+checkTests s levels = positionsTests (accesses levels s) (levels .pins) 0 ++ (imageTest s levels ∷ [])
+
+-- gives n
+abbrev pub checkIn : List ℕ → Levels → Outcome ℕ
+checkIn s levels = verdict (checkTests s levels) (levels .pins)
+
+-- check, which opens first
+unfoldable pub checkOf : List ℕ → Outcome ℕ
+checkOf s = after (opening s) (checkIn s)
+
+-- the list of a strip that opens, which is the plain list of an accepted one
+abbrev pub listAfter : Outcome Levels → List ℕ → List ℕ
+listAfter (gives levels) s = listIn s levels
+listAfter (refuses r c) s = []
+
+unfoldable pub plainList : List ℕ → List ℕ
+plainList s = listAfter (opening s) s
+
+-- check, then 4; gives n
+unfoldable pub unpackOf : List ℕ → ℕ → Outcome ℕ
+unpackOf s room = after (checkOf s) (λ n. verdict (roomTest room n ∷ []) n)
+
+-- the output after unpack: the first n entries are the list, later ones as they were
+unfoldable pub unpackOutput : List ℕ → List ℕ → List ℕ
+unpackOutput s out = written (unpackOf s (length out)) (plainList s) out
+
+-- of check and of unpack
+abbrev pub checked : Checked → Outcome ℕ
+checked (check.Pins n) = gives n
+checked (check.Refused r) = refuses (refusalNumber r) (carried r)
+
+-- ---- repeat
+
+-- the time at a position, less the one before, is below r
+abbrev pub nearAt : (ℕ → ℕ) → ℕ → ℕ → Bool
+nearAt time r zero = false
+nearAt time r (suc i) = ltb (time (suc i) - time i) r
+
+-- at each of k positions from i on access's refusal, then 11, then the test of r; gives the first position that passes it, or none
+unfoldable pub repeatFrom : (ℕ → Answer) → ℕ → ℕ → ℕ → Outcome (Option ℕ)
+repeatFrom answer r zero i = gives none
+repeatFrom answer r (suc k) i =
+    let near = nearAt (λ j. timeOr0 (answer j)) r i in
+    let later = repeatFrom answer r k (suc i) in
+    after (verdict (positionTests answer i) near) (λ b. cond b (gives (some i)) later)
+
+-- repeat r, which opens first
+unfoldable pub repeatOf : List ℕ → ℕ → Outcome (Option ℕ)
+repeatOf s r = after (opening s) (λ levels. repeatFrom (accesses levels s) r (levels .pins) 0)
+
+abbrev pub repeated : Repeated → Outcome (Option ℕ)
+repeated (repeat.First i) = gives (some i)
+repeated repeat.None = gives none
+repeated (repeat.Refused r) = refuses (refusalNumber r) (carried r)

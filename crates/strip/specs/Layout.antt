@@ -12,6 +12,10 @@ maxPins = 65535
 abbrev pub maxHeight : ℕ
 maxHeight = 16
 
+-- a number of bytes that is enough for any strip, by `RoomEnough` in Promises
+abbrev pub maxBytes : ℕ
+maxBytes = 7 + 5 * maxHeight + 4 * maxPins
+
 -- ---- multi-byte numbers have the high byte first
 
 abbrev pub twoBytes : ℕ → List ℕ

@@ -1,6 +1,6 @@
 -- What a strip and its calls mean, in the order of 01: Layout and Image its bytes, Opening and Calls what the calls answer. Lists,
--- Outcomes and Refusals have the words that these use. Marked has 01's cases, Promises what is shown besides the contracts. Opened
--- and Written are cited by private functions alone.
+-- Outcomes and Refusals have the words that these use. Marked has 01's cases, Promises what is shown besides the contracts. Opened,
+-- Written and Read are cited by private functions alone.
 pub mod Lists
 pub mod Outcomes
 pub mod Refusals
@@ -12,3 +12,4 @@ pub mod Marked
 pub mod Promises
 pub mod Opened
 pub mod Written
+pub mod Read

@@ -1,28 +1,30 @@
--- 01's marked cases and the examples of its table of refusals that concern pack, access, search and up-to, computed. The example of 2, a
--- list of 65,536, is too long for it and stands beside `marked-says`.
+-- 01's marked cases but the sweep's, and the examples of its table of refusals but the sweep's, computed. The example of 2, a list of
+-- 65,536, is too long for it and stands beside `marked-says`.
 use mathlib.Core.Bool.{Bool, true, false, _&&_}
 use mathlib.Core.Path.{_≡_, refl}
 use mathlib.Core.List.{List, [], _∷_, _++_}
+use mathlib.Core.Option.{Option, none, some}
 use Prim.Native.Nat.{ℕ, _+_}
 use lib.Dec.{eqb}
 use lib.ListN.{length, take, set, replicate}
+use Rattle.codes.specs.Lists.{same}
 use Rattle.codes.specs.Bits.{bits, number, sum, fixed, bytesOf, padded}
 use Rattle.codes.specs.Codes.{kindOf, rest, layers, kindBits}
 use Rattle.codes.specs.Choice.{widthIn, widest, bestChunked, chosen}
 use Rattle.codes.specs.Fetch.{fixedAt, fetchLayers, chunkedAt, fetched}
-use Rattle.codes.specs.Marked.{same}
 use Rattle.tree.specs.Shape.{height, rootPlace, childOf, stretchIn, stretch, rank}
 use Rattle.tree.specs.Lists.{ordered}
 use Rattle.tree.specs.Stored.{timeOf, timeAbove, stored, storedFrom}
 use Rattle.tree.specs.Levels.{partOf, fetchedAt}
 use Rattle.tree.specs.Times.{nodeTimeIn, nodeTime}
 use Rattle.tree.specs.Walks.{walkIn, walk, Answer, found, stopped, met, toward, lastOf, accessAnswer, lastLeft, searchAnswer}
-use Rattle.strip.specs.Lists.{firstLower}
+use Rattle.tree.specs.Listing.{timesFrom}
+use Rattle.strip.specs.Lists.{firstNear}
 use Rattle.strip.specs.Outcomes.{Outcome, gives, refuses, verdict}
 use Rattle.strip.specs.Layout.{maxPins, maxHeight, header, entry, endAfter, filled, laidOut}
 use Rattle.strip.specs.Image.{codeFor, partFor, joined, stripOf, image}
 use Rattle.strip.specs.Opening.{codeTests, opening}
-use Rattle.strip.specs.Calls.{packAnswer, packOutput, accessOf, searchOf, upToOf}
+use Rattle.strip.specs.Calls.{packAnswer, packOutput, accessOf, searchOf, upToOf, positionsTests, listIn, checkOf, plainList, unpackOf, unpackOutput, repeatFrom, repeatOf}
 
 -- list A with its strip, and strip B, that of the list 0
 abbrev pub listA : List ℕ
@@ -40,12 +42,24 @@ b = 0x50 ∷ 0x49 ∷ 0x4e ∷ 0x00 ∷ 0x01 ∷ 0x00 ∷ 0x01 ∷ 0x00 ∷ 0x00
 abbrev low : List ℕ
 low = header 2 ++ entry 0 0 ++ entry 1 1 ++ (0x80 ∷ [])
 
+-- A with node 5 storing 151: the times are 100, 250, 401, 400 and 1000
+abbrev fallen : List ℕ
+fallen = header 5 ++ entry 9 2 ++ entry 10 3 ++ entry 8 2 ++ (0xc8 ∷ 0x00 ∷ 0x25 ∷ 0xa5 ∷ 0x80 ∷ 150 ∷ 151 ∷ [])
+
+-- n = 1: the list 0, in a code with a bit more than is needed
+abbrev wasteful : List ℕ
+wasteful = header 1 ++ entry 65 1 ++ (0x00 ∷ [])
+
 pub data Case : Type 0 where
   -- the list, the output lent, the answer, and the output after it
   packs : List ℕ → List ℕ → Outcome ℕ → List ℕ → Case
   accesses : List ℕ → ℕ → Answer → Case
   searches : List ℕ → ℕ → Answer → Case
   counts : List ℕ → ℕ → Answer → Case
+  checks : List ℕ → Outcome ℕ → Case
+  -- the strip, the output lent, the answer, and the output after it
+  unpacks : List ℕ → List ℕ → Outcome ℕ → List ℕ → Case
+  repeats : List ℕ → ℕ → Outcome (Option ℕ) → Case
   root : ℕ → ℕ → Case
   tall : ℕ → ℕ → Case
 
@@ -59,6 +73,10 @@ marked =
     ∷ counts a 250 (found 3 3) ∷ counts a 4294967295 (found 5 0)
     -- 9
     ∷ root 1 1 ∷ root 2 2 ∷ root 3 2 ∷ root 4 3 ∷ root 5 4 ∷ root 6 4
+    -- 10
+    ∷ repeats a 150 (gives (some 2)) ∷ repeats a 0 (gives none)
+    -- A and B are accepted, and A unpacks, with an entry more than is needed
+    ∷ checks a (gives 5) ∷ checks b (gives 1) ∷ unpacks a (replicate 6 7) (gives 5) (listA ++ (7 ∷ []))
     -- list A by access
     ∷ accesses a 0 (found 100 3) ∷ accesses a 1 (found 250 2) ∷ accesses a 2 (found 250 3) ∷ accesses a 3 (found 400 1) ∷ accesses a 4 (found 1000 2)
     -- the greatest pin count has the greatest height, and one more has not
@@ -70,6 +88,11 @@ marked =
     ∷ searches (b ++ (0 ∷ [])) 0 (stopped 13 0) ∷ accesses a 5 (stopped 14 0)
     -- of 9 and 10
     ∷ accesses (set b 7 1) 0 (stopped 9 1) ∷ searches low 0 (stopped 10 2)
+    -- of 11 and 12, and of 4 for unpack
+    ∷ checks fallen (refuses 11 3) ∷ checks wasteful (refuses 12 0) ∷ unpacks a (replicate 4 7) (refuses 4 5) (replicate 4 7)
+    -- a refused check writes nothing; repeat does not look for 12, and tells 11 or the gap by what comes first
+    ∷ unpacks wasteful (7 ∷ []) (refuses 12 0) (7 ∷ []) ∷ repeats wasteful 1340 (gives none)
+    ∷ repeats fallen 150 (refuses 11 3) ∷ repeats fallen 151 (gives (some 1)) ∷ repeats low 1 (refuses 10 2)
     -- opening's own 1 and second 5; two faults at once, of which the first tested is told; no refusal but opening's at the greatest time
     ∷ searches (set b 6 0) 0 (stopped 1 0) ∷ searches (set b 6 5) 0 (stopped 5 0)
     ∷ searches (set (set b 4 2) 6 0) 0 (stopped 7 0) ∷ searches (set b 7 33 ++ (0 ∷ [])) 0 (stopped 8 1)
@@ -82,6 +105,9 @@ Says (packs xs out r after) = (packAnswer xs (length out) ≡ r) × (packOutput 
 Says (accesses s i r) = accessOf s i ≡ r
 Says (searches s t r) = searchOf s t ≡ r
 Says (counts s t r) = upToOf s t ≡ r
+Says (checks s r) = checkOf s ≡ r
+Says (unpacks s out r after) = (unpackOf s (length out) ≡ r) × (unpackOutput s out ≡ after)
+Says (repeats s r x) = repeatOf s r ≡ x
 Says (root n p) = rootPlace n ≡ p
 Says (tall n h) = height n ≡ h
 
@@ -99,11 +125,24 @@ is (found x k) (stopped r c) = false
 is (stopped r c) (found y l) = false
 is (stopped r c) (stopped q d) = eqb r q && eqb c d
 
+abbrev pub told : Outcome (Option ℕ) → Outcome (Option ℕ) → Bool
+told (gives none) (gives none) = true
+told (gives none) (gives (some j)) = false
+told (gives none) (refuses q d) = false
+told (gives (some i)) (gives none) = false
+told (gives (some i)) (gives (some j)) = eqb i j
+told (gives (some i)) (refuses q d) = false
+told (refuses r c) (gives y) = false
+told (refuses r c) (refuses q d) = eqb r q && eqb c d
+
 abbrev pub passes : Case → Bool
 passes (packs xs out r after) = given (packAnswer xs (length out)) r && same (packOutput xs out) after
 passes (accesses s i r) = is (accessOf s i) r
 passes (searches s t r) = is (searchOf s t) r
 passes (counts s t r) = is (upToOf s t) r
+passes (checks s r) = given (checkOf s) r
+passes (unpacks s out r after) = given (unpackOf s (length out)) r && same (unpackOutput s out) after
+passes (repeats s r x) = told (repeatOf s r) x
 passes (root n p) = eqb (rootPlace n) p
 passes (tall n h) = eqb (height n) h
 
@@ -114,6 +153,6 @@ all (c ∷ cs) = passes c && all cs
 pub marked-pass : all marked ≡ true
 unfolding bits number sum fixed bytesOf padded kindOf rest layers kindBits widthIn widest bestChunked chosen fixedAt fetchLayers chunkedAt fetched height
     rootPlace childOf stretchIn stretch rank ordered timeOf timeAbove stored storedFrom partOf fetchedAt nodeTimeIn nodeTime walkIn walk met toward lastOf
-    accessAnswer lastLeft searchAnswer firstLower verdict endAfter filled laidOut codeFor partFor joined stripOf codeTests opening packAnswer packOutput
-    accessOf searchOf upToOf
+    accessAnswer lastLeft searchAnswer firstNear verdict endAfter filled laidOut codeFor partFor joined stripOf codeTests opening packAnswer packOutput
+    accessOf searchOf upToOf timesFrom positionsTests listIn checkOf plainList unpackOf unpackOutput repeatFrom repeatOf
 marked-pass = refl

@@ -18,7 +18,12 @@ unfoldable pub verdict : {A : Type 0} → List Test → A → Outcome A
 verdict [] a = gives a
 verdict (test holds r c ∷ ts) a = cond holds (refuses r c) (verdict ts a)
 
--- the answer of a walk, where what comes before it is not refused
+-- what comes after an outcome, where that is not refused
+abbrev pub after : {A B : Type 0} → Outcome A → (A → Outcome B) → Outcome B
+after (gives a) f = f a
+after (refuses r c) f = refuses r c
+
+-- the answer of a walk in its place
 abbrev pub answerAfter : {A : Type 0} → Outcome A → (A → Answer) → Answer
 answerAfter (gives a) f = f a
 answerAfter (refuses r c) f = stopped r c

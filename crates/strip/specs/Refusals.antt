@@ -1,7 +1,7 @@
 -- 01's number for each refusal of the code, and what it carries.
 use Prim.Native.Nat.{ℕ}
 use Rattle.strip.specs.declared.refusals.Refusal.{Refusal}
-use Rattle.strip.specs.declared.refusals.Refusal.the-variants.{Empty, TooMany, ListFalls, Short, Cut, Mark, Version, Code, Fetch, Time, Length, Position}
+use Rattle.strip.specs.declared.refusals.Refusal.the-variants.{Empty, TooMany, ListFalls, Short, Cut, Mark, Version, Code, Fetch, Time, TimesFall, Image, Length, Position}
 
 abbrev pub refusalNumber : Refusal → ℕ
 refusalNumber Empty = 1
@@ -14,6 +14,8 @@ refusalNumber Version = 7
 refusalNumber (Code level) = 8
 refusalNumber (Fetch node) = 9
 refusalNumber (Time node) = 10
+refusalNumber (TimesFall i) = 11
+refusalNumber Image = 12
 refusalNumber Length = 13
 refusalNumber Position = 14
 
@@ -28,5 +30,7 @@ carried Version = 0
 carried (Code level) = level
 carried (Fetch node) = node
 carried (Time node) = node
+carried (TimesFall i) = i
+carried Image = 0
 carried Length = 0
 carried Position = 0

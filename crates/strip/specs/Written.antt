@@ -1,7 +1,7 @@
 -- What the functions behind pack answer and write.
-use mathlib.Core.List.{List, [], _∷_, _++_}
+use mathlib.Core.List.{List, [], _∷_}
 use Prim.Native.Nat.{ℕ, _+_, _-_}
-use lib.ListN.{length, take, drop, getD}
+use lib.ListN.{length, getD}
 use Rattle.tree.specs.declared.nodes.Levels.{Levels}
 use Rattle.strip.specs.Outcomes.{Outcome, verdict}
 use Rattle.strip.specs.Layout.{entry}
@@ -9,11 +9,7 @@ use Rattle.strip.specs.Calls.{roomTest}
 
 -- pack's answer for a list that has passed 1, 2 and 3, whose image these bytes are
 abbrev pub packedInto : ℕ → List ℕ → Outcome ℕ
-packedInto room bytes = verdict (roomTest room bytes ∷ []) (length bytes)
-
--- a buffer with these bytes from byte a on
-abbrev pub replaced : List ℕ → ℕ → List ℕ → List ℕ
-replaced out a bytes = take a out ++ bytes ++ drop (a + length bytes) out
+packedInto room bytes = verdict (roomTest room (length bytes) ∷ []) (length bytes)
 
 -- the code byte and the part's length of the level below d others
 abbrev pub entryIn : Levels → ℕ → List ℕ

@@ -10,7 +10,7 @@ pub enum Refusal {
     TooMany,
     // 3: the list falls; the first lower position.
     ListFalls(usize),
-    // 4: the output is shorter than needed; the bytes needed.
+    // 4: the output is shorter than needed; the bytes or entries needed.
     Short(usize),
     // 5: the strip is cut short.
     Cut,
@@ -24,6 +24,10 @@ pub enum Refusal {
     Fetch(usize),
     // 10: a time below 0 or above 4,294,967,295; the node.
     Time(usize),
+    // 11: the times fall; the lower position.
+    TimesFall(usize),
+    // 12: bytes other than the list's image.
+    Image,
     // 13: a length that is not 7 + 5h and the parts'.
     Length,
     // 14: a position at or past the pin count.

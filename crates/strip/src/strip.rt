@@ -1,23 +1,39 @@
 // The strip type, with the calls. No call requires anything.
+use super::checking::check_open;
+use super::checking::unpack_open;
 use super::lists::first_lower;
 use super::opening::Status;
 use super::opening::opening_of;
 use super::packing::pack_list;
 use super::refusals::Refusal;
 use super::refusals::of_walk;
+use super::repeating::repeat_open;
 use tree::GREATEST;
 use tree::Levels;
 ghost use mathlib.Core.Path.{_≡_};
 ghost use lib.ListN.{length};
 ghost use Rattle.tree.specs.Shape.{height, rootPlace};
 ghost use Rattle.tree.specs.Levels.{Fits};
-ghost use Rattle.strip.specs.Calls.{packAnswer, packOutput, packed, accessOf, accessIn, accessed, searchOf, searchIn, upToOf, searched};
+ghost use Rattle.strip.specs.Calls.{packAnswer, packOutput, packed, accessOf, accessIn, accessed, searchOf, searchIn, upToOf, searched, checkOf, unpackOf, unpackOutput, checked, repeatOf, repeated};
 
 pub struct Strip {}
 
 // The image's length in bytes.
 pub enum Packed {
     Length(usize),
+    Refused(Refusal),
+}
+
+// The pin count, which check and unpack give.
+pub enum Checked {
+    Pins(usize),
+    Refused(Refusal),
+}
+
+// The first position whose time is too soon after the one before, or none.
+pub enum Repeated {
+    First(usize),
+    None,
     Refused(Refusal),
 }
 
@@ -65,6 +81,9 @@ impl Strip {
     pub const MAX_PINS: usize = 65535;
 
     pub const MAX_HEIGHT: usize = 16;
+
+    // A number of bytes that is enough for any strip: the header, the level entries, and 4 bytes a pin.
+    pub const MAX_BYTES: usize = 7 + 5 * Strip::MAX_HEIGHT + 4 * Strip::MAX_PINS;
 
     // The height of n pins.
     pub fn height(n: usize) -> usize
@@ -137,6 +156,46 @@ impl Strip {
                 search_open(s, opening.levels, t + 1)
             }
             Status::Refused(r) => Searched::Refused(r),
+        }
+    }
+
+    // The pin count of a strip that some list packs to; any other is refused.
+    pub fn check(s: &[u8]) -> Checked
+        ensures { λ r. ⌜ checked r ≡ checkOf (now (s .entry)) ⌝ }
+    {
+        let opening = opening_of(s);
+        let status = opening.status;
+        match status {
+            Status::Open => {
+                let mut times = [0u32; Strip::MAX_PINS];
+                check_open(&mut times, s, opening.levels)
+            }
+            Status::Refused(r) => Checked::Refused(r),
+        }
+    }
+
+    // Writes the list that packs to the strip to the front of the output.
+    pub fn unpack(out: &mut [u32], s: &[u8]) -> Checked
+        ensures { λ r. ⌜ checked r ≡ unpackOf (now (s .entry)) (length (now (out .entry))) ⌝ }
+        ensures { λ r. ⌜ now (out .exit) ≡ unpackOutput (now (s .entry)) (now (out .entry)) ⌝ }
+    {
+        let opening = opening_of(s);
+        let status = opening.status;
+        match status {
+            Status::Open => unpack_open(out, s, opening.levels),
+            Status::Refused(r) => Checked::Refused(r),
+        }
+    }
+
+    // The first position whose time is less than r milliseconds after the one before.
+    pub fn repeat(s: &[u8], r: u32) -> Repeated
+        ensures { λ x. ⌜ repeated x ≡ repeatOf (now (s .entry)) r ⌝ }
+    {
+        let opening = opening_of(s);
+        let status = opening.status;
+        match status {
+            Status::Open => repeat_open(s, opening.levels, r),
+            Status::Refused(why) => Repeated::Refused(why),
         }
     }
 }

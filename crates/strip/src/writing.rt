@@ -5,9 +5,10 @@ ghost use mathlib.Core.List.{_++_};
 ghost use Prim.Native.Nat.{ℕ, _+_, _*_, _^_, _<_, _≤_};
 ghost use lib.ListN.{length, drop, getD};
 ghost use Rattle.tree.specs.Shape.{height};
+ghost use Rattle.tree.specs.Buffers.{replaced};
 ghost use Rattle.strip.specs.Layout.{maxHeight, header, entry, partsStart};
 ghost use Rattle.strip.specs.Image.{partFor, planned, joined, stripOf};
-ghost use Rattle.strip.specs.Written.{replaced, entryIn};
+ghost use Rattle.strip.specs.Written.{entryIn};
 
 // Writes the mark, the version and the pin count.
 fn put_header(out: &mut [u8], n: usize)

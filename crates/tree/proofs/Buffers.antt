@@ -40,3 +40,7 @@ replaced-around out a b p x q e h =
     let one : set (replaced out a p) b x ≡ replaced (replaced out a p) b (x ∷ []) = sets-eq (x ∷ []) (replaced out a p) b (omega arith) in
     let two = one ∙ replaced-more out a b p (x ∷ []) e (omega arith) in
     rw two (replaced-more out a (b + 1) (p ++ x ∷ []) q (omega (arith, length-append p (x ∷ []))) (omega arith) ∙ ap (replaced out a) (append-snoc p x q))
+
+-- what was written to the front
+pub front-of : (out : List ℕ) (p : List ℕ) (n : ℕ) → length p ≡ n → take n (replaced out 0 p) ≡ p
+front-of out p n e = take-at p (drop (0 + length p) out) n e

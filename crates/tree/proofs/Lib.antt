@@ -15,4 +15,5 @@ pub mod Ranks
 pub mod Shifts
 pub mod Steps
 pub mod Stretches
+pub mod TimeBounds
 pub mod Walks

@@ -5,7 +5,7 @@ use mathlib.Core.List.{List, [], _∷_, _++_, append-nil}
 use Prim.Native.Nat.{ℕ, zero, suc, _+_, _-_, _*_, _≤_, _<_}
 use native.Mathlib.Nat.{add-zero, add-suc}
 use native.Mathlib.Omega.{arith}
-use lib.ListN.{length, set}
+use lib.ListN.{length, set, getD}
 use borrow.Author.Tests.{lt-ltb, le-ltb}
 use Rattle.tree.specs.declared.shape.Stretch.{Stretch}
 use Rattle.tree.specs.declared.nodes.Levels.{Levels}
@@ -14,7 +14,7 @@ use Rattle.tree.specs.Levels.{fetchedAt}
 use Rattle.tree.specs.Times.{at, refused, nodeTime}
 use Rattle.tree.specs.Walks.{Answer, found, stopped}
 use Rattle.tree.specs.Buffers.{replaced}
-use Rattle.tree.specs.Listing.{Stop, nowhere, at as stop-at, accesses, timeThen, timesFrom, stopOr, stopFrom}
+use Rattle.tree.specs.Listing.{Stop, nowhere, at as stop-at, accesses, timeThen, timesFrom, stopOr, stopFrom, endOf}
 use Rattle.tree.specs.Standing.{Stands, Reaches}
 use Rattle.tree.proofs.Buffers.{replaced-around}
 use Rattle.tree.proofs.Steps.{stands-place, stands-rank, stands-node, stands-child, access-end, access-refused, access-step}
@@ -27,11 +27,6 @@ orLater (stop-at i r c) later = stop-at i r c
 abbrev pub unlessAt : Stop → List ℕ → List ℕ
 unlessAt nowhere later = later
 unlessAt (stop-at i r c) later = []
-
--- the position where the listing ends, with `last` after the last one
-abbrev pub endOf : Stop → ℕ → ℕ
-endOf nowhere last = last
-endOf (stop-at i r c) last = i
 
 module _ (answer : ℕ → Answer) where
   pub times-end : (k i : ℕ) → i + length (timesFrom answer k i) ≡ endOf (stopFrom answer k i) (i + k)
@@ -90,6 +85,16 @@ module _ (answer : ℕ → Answer) where
   unfolding timesFrom
   times-here zero i r c h e = absurd (omega arith)
   times-here (suc k) i r c h e = ap (λ (y : Answer). timeThen y (timesFrom answer k (suc i))) e
+
+  -- where access finds the times of a list
+  pub times-found : (xs : List ℕ) (i : ℕ) (nodes : ℕ → ℕ) → ((j : ℕ) → j < length xs → answer (i + j) ≡ found (getD xs j 0) (nodes j))
+      → (timesFrom answer (length xs) i ≡ xs) × (stopFrom answer (length xs) i ≡ nowhere)
+  unfolding timesFrom stopFrom
+  times-found [] i nodes h = (refl, refl)
+  times-found (x ∷ xs) i nodes h =
+      let e : answer i ≡ found x (nodes 0) = rw (add-zero i) at (h 0 (omega arith)) in
+      let later = times-found xs (suc i) (λ j. nodes (suc j)) (λ j k. let f : suc i + j ≡ i + suc j = omega arith in rw f (h (suc j) (omega arith))) in
+      rw (e, later .0, later .1) (refl, refl)
 
 -- ---- at a node
 

@@ -1,8 +1,8 @@
 -- The promises of specs/Promises.
-use mathlib.Core.Path.{_≡_, sym, ap, _∙_}
+use mathlib.Core.Path.{_≡_, sym, ap, subst, _∙_}
 use mathlib.Core.List.{List}
 use Prim.Native.Nat.{ℕ, zero, suc, _-_, _^_, _≤_, min}
-use native.Mathlib.Nat.{le-refl}
+use native.Mathlib.Nat.{le-refl, zero-add}
 use native.Mathlib.Omega.{arith}
 use lib.Dec.{eqb, ltb}
 use lib.ListN.{length}
@@ -12,8 +12,9 @@ use Rattle.tree.specs.Shape.{rank}
 use Rattle.tree.specs.Stored.{timeOf}
 use Rattle.tree.specs.Levels.{firstOf, levelOf, fetchedAt}
 use Rattle.tree.specs.Times.{at, nodeTime}
+use Rattle.tree.specs.Listing.{nowhere, accesses, timesFrom, stopFrom}
 use Rattle.tree.specs.Walks.{toward, accessAnswer, searchNodes, searchAnswer}
-use Rattle.tree.specs.Promises.{HeightLeast, Shape, Held, Contents, SearchFinds, AccessOpens, StoredLevels}
+use Rattle.tree.specs.Promises.{HeightLeast, Shape, Held, Contents, SearchFinds, AccessOpens, StoredLevels, Lists}
 use Rattle.tree.proofs.Heights.{digits, height-bound, height-le, height-is}
 use Rattle.tree.proofs.Stretches.{stretch-root, stretch-left, stretch-right, node-iff}
 use Rattle.tree.proofs.Inorder.{tree}
@@ -21,6 +22,8 @@ use Rattle.tree.proofs.Ranks.{rank-lt, rank-found}
 use Rattle.tree.proofs.Walks.{walk-length}
 use Rattle.tree.proofs.Paths.{toward-rank, rank-once, fromRoot-length, access-answer, search-path, search-answer}
 use Rattle.tree.proofs.Contents.{times-back}
+use Rattle.tree.proofs.Listings.{times-end, times-found}
+use Rattle.tree.proofs.TimeBounds.{times-within}
 use Rattle.tree.proofs.LevelValues.{length-stored, stored-within, level-within, level-half, level-above, fetched-stored}
 
 pub height-least : HeightLeast
@@ -90,3 +93,18 @@ access-opens = record {
 
 pub stored-levels : StoredLevels
 stored-levels = record { count = length-stored; within = stored-within; level-within = level-within; half = level-half; above = level-above }
+
+-- access finds each time of the list
+listing : (levels : Levels) (s xs : List ℕ) → Held levels s xs
+    → (timesFrom (accesses levels s) (levels .pins) 0 ≡ xs) × (stopFrom (accesses levels s) (levels .pins) 0 ≡ nowhere)
+listing levels s xs held =
+    subst (λ (k : ℕ). (timesFrom (accesses levels s) k 0 ≡ xs) × (stopFrom (accesses levels s) k 0 ≡ nowhere)) (sym (held .stores .pins-are))
+    (times-found (accesses levels s) xs 0 (λ j. length (toward (length xs) j)) (λ j h. rw (zero-add j) (contents .access levels s xs held j h)))
+
+pub lists : Lists
+lists = record {
+  count = λ answer k. rw (zero-add (length (timesFrom answer k 0)), zero-add k) at (times-end answer k 0);
+  within = λ levels s k. times-within levels s k 0;
+  times = λ levels s xs held. listing levels s xs held .0;
+  stop = λ levels s xs held. listing levels s xs held .1;
+}

@@ -36,6 +36,11 @@ unfoldable pub stopFrom : (ℕ → Answer) → ℕ → ℕ → Stop
 stopFrom answer zero i = nowhere
 stopFrom answer (suc k) i = stopOr i (answer i) (stopFrom answer k (suc i))
 
+-- the position where a listing of k positions from 0 on ends
+abbrev pub endOf : Stop → ℕ → ℕ
+endOf nowhere k = k
+endOf (at i r c) k = i
+
 abbrev pub listed : Listed → Stop
 listed listing.All = nowhere
 listed (listing.Refused i r) = at i (numberOf r) (nodeOf r)

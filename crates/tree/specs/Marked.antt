@@ -3,8 +3,8 @@ use mathlib.Core.Bool.{Bool, true, _&&_}
 use mathlib.Core.Path.{_≡_, refl}
 use mathlib.Core.List.{List, [], _∷_}
 use Prim.Native.Nat.{ℕ}
+use Rattle.codes.specs.Lists.{same}
 use Rattle.codes.specs.Choice.{widthIn}
-use Rattle.codes.specs.Marked.{same}
 use Rattle.tree.specs.Shape.{height, rootPlace, stretchIn, stretch, rank}
 use Rattle.tree.specs.Stored.{timeOf, timeAbove, stored, storedFrom, storedValues}
 

@@ -1,5 +1,5 @@
 -- What is shown of the tree besides each function's contract. proofs/Promises proves each, as `height-least`, `shape`, `contents`,
--- `search-finds`, `access-opens` and `stored-levels`.
+-- `search-finds`, `access-opens`, `stored-levels` and `lists`.
 use mathlib.Core.Path.{_≡_}
 use mathlib.Core.Logic.{_≢_, _↔_}
 use mathlib.Core.Bool.{Bool, true, false}
@@ -14,7 +14,8 @@ use Rattle.tree.specs.Lists.{ordered, smaller}
 use Rattle.tree.specs.Stored.{timeOf, storedValues}
 use Rattle.tree.specs.Levels.{firstOf, levelOf, levelValues, fetchedAt, Stores}
 use Rattle.tree.specs.Times.{at, nodeTime}
-use Rattle.tree.specs.Walks.{walk, found, toward, accessAnswer, searchNodes, searchAnswer, path, fromRoot}
+use Rattle.tree.specs.Listing.{nowhere, accesses, timesFrom, stopFrom, endOf}
+use Rattle.tree.specs.Walks.{walk, Answer, found, toward, accessAnswer, searchNodes, searchAnswer, path, fromRoot}
 
 -- The height is the least number with 2 ^ h - 1 ≥ n.
 pub record HeightLeast : Type 0 where
@@ -73,3 +74,11 @@ pub record StoredLevels : Type 0 where
   pub level-within : (w : ℕ) (values : List ℕ) (l : ℕ) → Within w values → Within w (levelValues values l)
   pub half : (values : List ℕ) (l : ℕ) → 2 * length (levelValues values l) ≤ length values + 1
   pub above : (values : List ℕ) (d : ℕ) → min (length values) (2 ^ d - 1) + length (levelValues values (suc d)) ≤ min (length values) (2 ^ suc d - 1)
+
+-- 6. A listing has a time for each position before the one where it ends, each of 32 bits. Of levels that hold a list it lists that
+-- list, and nothing is refused.
+pub record Lists : Type 0 where
+  pub count : (answer : ℕ → Answer) (k : ℕ) → length (timesFrom answer k 0) ≡ endOf (stopFrom answer k 0) k
+  pub within : (levels : Levels) (s : List ℕ) (k : ℕ) → Within 32 (timesFrom (accesses levels s) k 0)
+  pub times : (levels : Levels) (s xs : List ℕ) → Held levels s xs → timesFrom (accesses levels s) (levels .pins) 0 ≡ xs
+  pub stop : (levels : Levels) (s xs : List ℕ) → Held levels s xs → stopFrom (accesses levels s) (levels .pins) 0 ≡ nowhere

@@ -1,11 +1,10 @@
 -- `opening_of` meets its contract.
 use mathlib.Core.Path.{_≡_, sym, ap, _∙_}
 use Prim.Native.Nat.{ℕ}
-use Rattle.strip.specs.Outcomes.{Outcome, gives, verdict}
+use Rattle.strip.specs.Outcomes.{Outcome, gives, verdict, after}
 use Rattle.strip.specs.Layout.{pinsOf}
 use Rattle.strip.specs.Opening.{headerTests, levelTests, levelsIn}
 use Rattle.strip.specs.Opened.{headerOutcome}
-use Rattle.strip.proofs.Verdicts.{after}
 use Rattle.strip.proofs.Openings.{opening-steps}
 use borrow.Author.Needs.{needs}
 use Rattle.strip.proofs.opening.opening_of.Statement.{statement}

@@ -5,8 +5,10 @@ use Prim.Native.Nat.{_+_, _-_, _*_, _≤_}
 use lib.ListN.{length}
 use Rattle.tree.specs.Shape.{height}
 use Rattle.strip.specs.Image.{joined}
-use Rattle.strip.specs.Written.{replaced, entryIn}
-use Rattle.strip.proofs.Pieces.{replaced-none, entries-next}
+use Rattle.tree.specs.Buffers.{replaced}
+use Rattle.strip.specs.Written.{entryIn}
+use Rattle.tree.proofs.Buffers.{replaced-none}
+use Rattle.strip.proofs.Pieces.{entries-next}
 use Rattle.strip.proofs.writing.put_entries.Statement.{statement}
 use Rattle.strip.proofs.writing.put_entries.Tie as tie
 

@@ -10,10 +10,11 @@ use Rattle.tree.specs.Shape.{height}
 use Rattle.tree.proofs.Promises.{stored-levels}
 use Rattle.strip.specs.Layout.{partsStart}
 use Rattle.strip.specs.Image.{partFor, joined}
-use Rattle.strip.specs.Written.{replaced}
+use Rattle.tree.specs.Buffers.{replaced}
 use Rattle.strip.proofs.Layouts.{tall}
 use Rattle.strip.proofs.Plans.{plan-pins, plan-spot, level-next, level-holds}
-use Rattle.strip.proofs.Pieces.{replaced-none, replaced-more, length-replaced, joined-next, length-lent, lent-written}
+use Rattle.tree.proofs.Buffers.{replaced-none, replaced-more, length-replaced}
+use Rattle.strip.proofs.Pieces.{joined-next, length-lent, lent-written}
 use Rattle.strip.proofs.writing.put_parts.Statement.{statement}
 use Rattle.strip.proofs.writing.put_parts.Tie as tie
 

@@ -7,7 +7,8 @@ use lib.ListN.{length, getD}
 use Rattle.tree.specs.Shape.{height}
 use Rattle.strip.specs.Layout.{partsStart}
 use Rattle.strip.specs.Image.{partFor, joined}
-use Rattle.strip.specs.Written.{replaced, entryIn}
+use Rattle.tree.specs.Buffers.{replaced}
+use Rattle.strip.specs.Written.{entryIn}
 use Rattle.strip.proofs.Layouts.{tall}
 use Rattle.strip.proofs.Plans.{plan-pins, plan-at, length-strip, strip-written}
 use borrow.Author.Needs.{needs}

@@ -7,7 +7,7 @@ use Rattle.strip.specs.Lists.{firstLower}
 use Rattle.strip.specs.Outcomes.{verdict}
 use Rattle.strip.specs.Layout.{maxPins}
 use Rattle.strip.specs.Calls.{packAnswer, packOutput}
-use Rattle.strip.proofs.Falls.{ordered-lower}
+use Rattle.strip.proofs.Gaps.{ordered-lower}
 use borrow.Author.Needs.{needs}
 use Rattle.strip.proofs.strip.Strip.pack.Statement.{statement}
 use Rattle.strip.proofs.strip.Strip.pack.Tie as tie

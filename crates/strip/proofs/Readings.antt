@@ -1,0 +1,154 @@
+-- Check and repeat, position by position, by the list that they read and by what ends it.
+use mathlib.Core.Path.{_≡_, refl, sym, ap, _∙_}
+use mathlib.Core.Bool.{Bool, true, false, not, cond}
+use mathlib.Core.List.{List, [], _∷_, _++_}
+use mathlib.Core.Option.{Option, none, some}
+use Prim.Native.Nat.{ℕ, zero, suc, _+_, _-_, _≤_, _<_}
+use native.Mathlib.Nat.{zero-add}
+use native.Mathlib.Numerals.{add-one}
+use native.Mathlib.Decide.{decLt}
+use native.Mathlib.Omega.{arith}
+use lib.Dec.{ltb}
+use lib.ListN.{length, getD}
+use borrow.Author.Tests.{lt-ltb, le-ltb, le-leb, lt-leb}
+use Rattle.tree.specs.declared.nodes.Levels.{Levels}
+use Rattle.tree.specs.Lists.{ordered}
+use Rattle.tree.specs.Walks.{Answer, found, stopped}
+use Rattle.tree.specs.Listing.{Stop, nowhere, at, accesses, timesFrom, stopFrom}
+use Rattle.strip.specs.Lists.{firstNear, firstLower}
+use Rattle.strip.specs.Outcomes.{Outcome, gives, refuses, Test, test, verdict, after}
+use Rattle.strip.specs.Calls.{timeOr0, refusalTest, fallsAt, positionTests, positionsTests, listIn, imageTest, checkIn, nearAt, repeatFrom}
+use Rattle.strip.specs.Read.{fallsTest, gapAt, gapOr}
+use Rattle.strip.proofs.Gaps.{near-here, near-later, near-one, near-some, ordered-lower}
+
+-- what ends a reading after its last position
+abbrev pub ending : Stop → Outcome (Option ℕ)
+ending nowhere = gives none
+ending (at i r c) = refuses r c
+
+-- ---- repeat
+
+-- position q of a list whose first position is i
+abbrev gapFrom : ℕ → List ℕ → ℕ → Outcome (Option ℕ)
+gapFrom i xs q = cond (ltb (getD xs q 0) (getD xs (q - 1) 0)) (refuses 11 (i + q)) (gives (some (i + q)))
+
+abbrev gapsFrom : ℕ → ℕ → List ℕ → Outcome (Option ℕ) → Outcome (Option ℕ)
+gapsFrom r i xs end = cond (ltb (firstNear r xs) (length xs)) (gapFrom i xs (firstNear r xs)) end
+
+module _ (r i x y : ℕ) (ys : List ℕ) (end : Outcome (Option ℕ)) where
+  -- the second position is the one
+  gaps-here : y < x + r → gapsFrom r i (x ∷ y ∷ ys) end ≡ cond (ltb y x) (refuses 11 (suc i)) (gives (some (suc i)))
+  gaps-here h = rw (near-here r x y ys h, lt-ltb 1 (suc (suc (length ys))) (omega arith), add-one i)
+
+  -- or a later one
+  gaps-later : x + r ≤ y → gapsFrom r i (x ∷ y ∷ ys) end ≡ gapsFrom r (suc i) (y ∷ ys) end
+  gaps-later h = rw (near-later r x y ys h) (go (firstNear r (y ∷ ys)) (near-some r y ys))
+    where
+      go : (q : ℕ) → 1 ≤ q
+          → cond (ltb (suc q) (suc (suc (length ys)))) (gapFrom i (x ∷ y ∷ ys) (suc q)) end ≡ cond (ltb q (suc (length ys))) (gapFrom (suc i) (y ∷ ys) q) end
+      go zero k = absurd (omega arith)
+      go (suc q) k =
+          let e : i + suc (suc q) ≡ suc i + suc q = omega arith in
+          let f : suc (suc q) - 1 ≡ suc q = omega arith in
+          let g : suc q - 1 ≡ q = omega arith in
+          elim (decLt (suc q) (suc (length ys))) [
+            | yes l ↦ rw (lt-ltb (suc q) (suc (length ys)) l, lt-ltb (suc (suc q)) (suc (suc (length ys))) (omega arith), e, f, g)
+            | no l ↦ rw (le-ltb (suc q) (suc (length ys)) (omega arith), le-ltb (suc (suc q)) (suc (suc (length ys))) (omega arith))
+          ]
+
+module _ (answer : ℕ → Answer) (r : ℕ) where
+  -- from the position after i on, where position i has time x
+  gaps-from : (k i x j : ℕ) → answer i ≡ found x j → repeatFrom answer r k (suc i) ≡ gapsFrom r i (x ∷ timesFrom answer k (suc i)) (ending (stopFrom answer k (suc i)))
+  unfolding repeatFrom timesFrom stopFrom verdict
+  gaps-from zero i x j e = rw (near-one r x)
+  gaps-from (suc k) i x j e = go (answer (suc i)) refl (gaps-from k (suc i))
+    where
+      go : (z : Answer) → answer (suc i) ≡ z
+          → ((y l : ℕ) → answer (suc i) ≡ found y l
+          → repeatFrom answer r k (suc (suc i)) ≡ gapsFrom r (suc i) (y ∷ timesFrom answer k (suc (suc i))) (ending (stopFrom answer k (suc (suc i)))))
+          → repeatFrom answer r (suc k) (suc i) ≡ gapsFrom r i (x ∷ timesFrom answer (suc k) (suc i)) (ending (stopFrom answer (suc k) (suc i)))
+      go (stopped q c) f later = rw (f, near-one r x)
+      go (found y l) f later = elim (decLt y (x + r)) [
+        | yes n ↦ rw (f, e) (here (decLt y x) n ∙ sym (gaps-here r i x y (timesFrom answer k (suc (suc i))) (ending (stopFrom answer k (suc (suc i)))) n))
+        | no n ↦
+            rw (f, e, le-ltb y x (omega arith), le-ltb (y - x) r (omega arith))
+            (later y l f ∙ sym (gaps-later r i x y (timesFrom answer k (suc (suc i))) (ending (stopFrom answer k (suc (suc i)))) (omega arith)))
+      ]
+        where
+          here : Dec (y < x) → y < x + r
+              → after (cond (ltb y x) (refuses 11 (suc i)) (gives (ltb (y - x) r))) (λ b. cond b (gives (some (suc i))) (repeatFrom answer r k (suc (suc i))))
+              ≡ cond (ltb y x) (refuses 11 (suc i)) (gives (some (suc i)))
+          here (yes h) n = rw (lt-ltb y x h)
+          here (no h) n = rw (le-ltb y x (omega arith), lt-ltb (y - x) r (omega arith))
+
+  pub repeat-lists : (k : ℕ) → repeatFrom answer r k 0 ≡ gapOr r (timesFrom answer k 0) (ending (stopFrom answer k 0))
+  unfolding repeatFrom timesFrom stopFrom verdict firstNear
+  repeat-lists zero = refl
+  repeat-lists (suc k) = go (answer 0) refl
+    where
+      go : (z : Answer) → answer 0 ≡ z → repeatFrom answer r (suc k) 0 ≡ gapOr r (timesFrom answer (suc k) 0) (ending (stopFrom answer (suc k) 0))
+      go (stopped q c) f = rw f
+      go (found x l) f = rw f (gaps-from k 0 x l f ∙ rw (zero-add (firstNear r (x ∷ timesFrom answer k 1))))
+
+-- ---- check
+
+module _ (answer : ℕ → Answer) {A : Type 0} (rest : List Test) (a : A) where
+  no-gap : (time : ℕ → ℕ) (i : ℕ) → nearAt time 0 i ≡ false
+  no-gap time zero = refl
+  no-gap time (suc i) = le-ltb (time (suc i) - time i) 0 (omega arith)
+
+  -- check's tests are those of repeat with r = 0, which no gap is below
+  check-repeats : (k i : ℕ) → verdict (positionsTests answer k i ++ rest) a ≡ after (repeatFrom answer 0 k i) (λ _. verdict rest a)
+  unfolding positionsTests repeatFrom verdict
+  check-repeats zero i = refl
+  check-repeats (suc k) i = rw (no-gap (λ j. timeOr0 (answer j)) i) (go (answer i) (fallsAt (λ j. timeOr0 (answer j)) i) (check-repeats k (suc i)))
+    where
+      go : (z : Answer) (falls : Bool) → verdict (positionsTests answer k (suc i) ++ rest) a ≡ after (repeatFrom answer 0 k (suc i)) (λ _. verdict rest a)
+          → verdict (refusalTest z ∷ test falls 11 i ∷ positionsTests answer k (suc i) ++ rest) a
+          ≡ after (after (verdict (refusalTest z ∷ test falls 11 i ∷ []) false) (λ b. cond b (gives (some i)) (repeatFrom answer 0 k (suc i)))) (λ _. verdict rest a)
+      go (stopped r c) falls e = refl
+      go (found t j) true e = refl
+      go (found t j) false e = e
+
+-- where there is such a position for r = 0, its time is lower
+lower-at : (xs : List ℕ) → firstLower xs < length xs → getD xs (firstLower xs) 0 < getD xs (firstLower xs - 1) 0
+unfolding firstNear
+lower-at [] h = absurd (omega arith)
+lower-at (x ∷ []) h = absurd (omega arith)
+lower-at (x ∷ y ∷ ys) h = elim (decLt y (x + 0)) [
+  | yes l ↦ rw (near-here 0 x y ys l) (omega arith)
+  | no l ↦
+      let e = near-later 0 x y ys (omega arith) in
+      let s = near-some 0 y ys in
+      let d : suc (firstLower (y ∷ ys)) - 1 ≡ suc (firstLower (y ∷ ys) - 1) = omega arith in
+      rw (e, d) (lower-at (y ∷ ys) (omega arith))
+]
+
+falls-first : {A : Type 0} (xs : List ℕ) (end : Outcome (Option ℕ)) (f : Option ℕ → Outcome A)
+    → after (gapOr 0 xs end) f ≡ cond (not (ordered xs)) (refuses 11 (firstLower xs)) (after end f)
+falls-first xs end f = elim (decLt (firstLower xs) (length xs)) [
+  | yes l ↦
+      rw (ordered-lower xs, lt-leb (length xs) (firstLower xs) l, lt-ltb (firstLower xs) (length xs) l, lt-ltb (getD xs (firstLower xs) 0) (getD xs (firstLower xs - 1) 0) (lower-at xs l))
+  | no l ↦ rw (ordered-lower xs, le-leb (length xs) (firstLower xs) (omega arith), le-ltb (firstLower xs) (length xs) (omega arith))
+]
+
+module _ (s : List ℕ) (levels : Levels) where
+  check-lists : checkIn s levels
+      ≡ cond (not (ordered (listIn s levels))) (refuses 11 (firstLower (listIn s levels)))
+      (after (ending (stopFrom (accesses levels s) (levels .pins) 0)) (λ _. verdict (imageTest s levels ∷ []) (levels .pins)))
+  unfolding listIn
+  check-lists =
+      check-repeats (accesses levels s) (imageTest s levels ∷ []) (levels .pins) (levels .pins) 0
+      ∙ ap (λ (o : Outcome (Option ℕ)). after o (λ _. verdict (imageTest s levels ∷ []) (levels .pins))) (repeat-lists (accesses levels s) 0 (levels .pins))
+      ∙ falls-first (timesFrom (accesses levels s) (levels .pins) 0) (ending (stopFrom (accesses levels s) (levels .pins) 0)) (λ _. verdict (imageTest s levels ∷ []) (levels .pins))
+
+  -- every position has a time
+  pub check-all : stopFrom (accesses levels s) (levels .pins) 0 ≡ nowhere → checkIn s levels ≡ verdict (fallsTest (listIn s levels) ∷ imageTest s levels ∷ []) (levels .pins)
+  unfolding verdict
+  check-all e = check-lists ∙ rw e
+
+  -- one is refused
+  pub check-stopped : (i r c : ℕ) → stopFrom (accesses levels s) (levels .pins) 0 ≡ at i r c
+      → checkIn s levels ≡ verdict (fallsTest (listIn s levels) ∷ test true r c ∷ []) 0
+  unfolding verdict
+  check-stopped i r c e = check-lists ∙ rw e

@@ -1,0 +1,42 @@
+-- `unpack` meets its contract.
+use mathlib.Core.Path.{refl}
+use Rattle.strip.specs.Calls.{checkOf, plainList, unpackOf, unpackOutput}
+use Rattle.strip.proofs.Openings.{opening-is}
+use borrow.Author.Needs.{needs}
+use Rattle.strip.proofs.strip.Strip.unpack.Statement.{statement}
+use Rattle.strip.proofs.strip.Strip.unpack.Tie as tie
+
+opening-of-requires : tie.Need-opening-of-requires
+opening-of-requires c κs = search needs
+
+enum-told : tie.Need-enum-told
+enum-told c = search needs
+
+unpack-open-requires : tie.Need-unpack-open-requires
+unpack-open-requires c κs = rw (c .before .enum-told .given .1) at (c .before .before .before .opening-of .ensures .1)
+
+enum-known-status : tie.Need-enum-known-status
+enum-known-status c = search needs
+
+same-length : tie.Need-same-length
+same-length c = search needs
+
+returns : tie.Need-returns
+unfolding checkOf unpackOf plainList unpackOutput
+returns c = rw (opening-is (c .before .before .before .before .before .before .before .before .before .args .s .now) (c .before .before .before .before .before .before .opening-of .result) _ (c .before .before .before .before .before .before .opening-of .ensures .0) (c .before .before .before .before .enum-told .given .1)) (c .before .before .unpack-open .ensures)
+
+returns-2 : tie.Need-returns-2
+unfolding checkOf unpackOf plainList unpackOutput
+returns-2 c = rw (opening-is (c .before .before .before .before .before .before .args .s .now) (c .before .before .before .opening-of .result) _ (c .before .before .before .opening-of .ensures .0) (c .before .status .given .1)) (refl, refl)
+
+pub unpack-spec : {M : Type 1} → statement M
+unpack-spec =
+    tie.close
+    (tie.spec
+    opening-of-requires
+    enum-told
+    unpack-open-requires
+    enum-known-status
+    same-length
+    returns
+    returns-2)

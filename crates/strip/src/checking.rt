@@ -1,0 +1,119 @@
+// Check and unpack, for a strip that is open.
+use super::lists::first_lower;
+use super::packing::pack_list;
+use super::refusals::Refusal;
+use super::refusals::of_walk;
+use super::strip::Checked;
+use super::strip::Packed;
+use super::strip::Strip;
+use tree::Levels;
+use tree::Listed;
+ghost use mathlib.Core.Path.{_≡_};
+ghost use mathlib.Core.Bool.{true, not};
+ghost use mathlib.Core.List.{[], _∷_};
+ghost use Prim.Native.Nat.{_^_, _<_, _≤_};
+ghost use lib.Dec.{T};
+ghost use lib.ListN.{length};
+ghost use Rattle.codes.specs.Lists.{same};
+ghost use Rattle.tree.specs.Lists.{ordered};
+ghost use Rattle.tree.specs.Levels.{Fits};
+ghost use Rattle.tree.specs.Times.{numberOf, nodeOf};
+ghost use Rattle.tree.specs.Buffers.{replaced};
+ghost use Rattle.strip.specs.Outcomes.{test, verdict};
+ghost use Rattle.strip.specs.Image.{image};
+ghost use Rattle.strip.specs.Calls.{roomTest, written, listIn, checkIn, checked};
+ghost use Rattle.strip.specs.Read.{fallsTest, unpackIn};
+
+// Whether two runs of bytes are the same.
+fn same_bytes(a: &[u8], b: &[u8]) -> bool
+    ensures { λ r. ⌜ r ≡ same (now (a .entry)) (now (b .entry)) ⌝ }
+{
+    let n = a.len();
+    if n != b.len() {
+        return false;
+    }
+    let mut i: usize = 0;
+    while i < n {
+        if a[i] != b[i] {
+            return false;
+        }
+        i += 1;
+    }
+    true
+}
+
+// Whether the bytes are the image of an ordered list.
+fn is_image(s: &[u8], times: &[u32]) -> bool
+    requires { ⌜ T (ordered (now times)) × (length (now times) < 2 ^ 16) ⌝ }
+    ensures { λ r. ⌜ r ≡ same (image (now (times .entry))) (now (s .entry)) ⌝ }
+{
+    let mut out = [0u8; Strip::MAX_BYTES];
+    let packed = pack_list(&mut out, times);
+    match packed {
+        Packed::Length(n) => same_bytes(&out[..n], s),
+        // There is room for any image.
+        Packed::Refused(_) => false,
+    }
+}
+
+// Tests 11 and 12, for a strip with these times.
+fn check_list(s: &[u8], times: &[u32]) -> Checked
+    requires { ⌜ length (now times) < 2 ^ 16 ⌝ }
+    ensures { λ r. ⌜ checked r ≡ verdict (fallsTest (now (times .entry)) ∷ test (not (same (image (now (times .entry))) (now (s .entry)))) 12 0 ∷ []) (length (now (times .entry))) ⌝ }
+{
+    let n = times.len();
+    let lower = first_lower(times);
+    if lower < n {
+        return Checked::Refused(Refusal::TimesFall(lower));
+    }
+    if is_image(s, times) {
+        return Checked::Pins(n);
+    }
+    Checked::Refused(Refusal::Image)
+}
+
+// Test 11 for the times before a refused position, then its refusal.
+fn check_refused(times: &[u32], why: tree::Refusal) -> Checked
+    ensures { λ r. ⌜ checked r ≡ verdict (fallsTest (now (times .entry)) ∷ test true (numberOf why) (nodeOf why) ∷ []) 0 ⌝ }
+{
+    let lower = first_lower(times);
+    if lower < times.len() {
+        return Checked::Refused(Refusal::TimesFall(lower));
+    }
+    Checked::Refused(of_walk(why))
+}
+
+// Checks a strip that is open. Its times, as far as access is not refused, are left in `times`.
+pub(crate) fn check_open(times: &mut [u32], s: &[u8], levels: Levels) -> Checked
+    requires { ⌜ Fits levels (now s) ⌝ }
+    requires { ⌜ levels .pins ≤ length (now times) ⌝ }
+    ensures { λ r. ⌜ checked r ≡ checkIn (now (s .entry)) levels ⌝ }
+    ensures { λ r. ⌜ now (times .exit) ≡ replaced (now (times .entry)) 0 (listIn (now (s .entry)) levels) ⌝ }
+{
+    let n = levels.pins;
+    let listed = tree::list(times, s, levels);
+    match listed {
+        Listed::All => check_list(s, &times[..n]),
+        Listed::Refused(i, why) => check_refused(&times[..i], why),
+    }
+}
+
+// Unpacks a strip that is open.
+pub(crate) fn unpack_open(out: &mut [u32], s: &[u8], levels: Levels) -> Checked
+    requires { ⌜ Fits levels (now s) ⌝ }
+    ensures { λ r. ⌜ checked r ≡ unpackIn (now (s .entry)) (length (now (out .entry))) levels ⌝ }
+    ensures { λ r. ⌜ now (out .exit) ≡ written (unpackIn (now (s .entry)) (length (now (out .entry))) levels) (listIn (now (s .entry)) levels) (now (out .entry)) ⌝ }
+{
+    let mut times = [0u32; Strip::MAX_PINS];
+    let result = check_open(&mut times, s, levels);
+    match result {
+        Checked::Pins(n) => {
+            if out.len() < n {
+                return Checked::Refused(Refusal::Short(n));
+            }
+            codes::copy_values(out, &times[..n]);
+            Checked::Pins(n)
+        }
+        Checked::Refused(r) => Checked::Refused(r),
+    }
+}

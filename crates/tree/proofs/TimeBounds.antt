@@ -1,0 +1,68 @@
+-- Every time that access gives, and so every time that is listed, has 32 bits.
+use mathlib.Core.List.{List, [], _∷_}
+use Prim.Native.Nat.{ℕ, zero, suc, _+_, _/_, _%_, _^_, _<_}
+use native.Mathlib.Decide.{decLt, ℕ-discrete}
+use native.Mathlib.Omega.{arith}
+use lib.ListN.{length}
+use borrow.Author.Tests.{lt-ltb, le-ltb, ne-eqb}
+use Rattle.codes.specs.Codes.{Within}
+use Rattle.codes.specs.Fetch.{Fetched, value, outside}
+use Rattle.tree.specs.declared.nodes.Levels.{Levels}
+use Rattle.tree.specs.Shape.{height}
+use Rattle.tree.specs.Levels.{fetchedAt}
+use Rattle.tree.specs.Times.{Time, at, refused, under, known, nodeTimeIn, nodeTime}
+use Rattle.tree.specs.Walks.{Answer, found, stopped, unless, met, toward, lastOf, accessAnswer}
+use Rattle.tree.specs.Listing.{accesses, timeThen, timesFrom}
+
+time-within : (fetch : ℕ → Fetched) (v : ℕ) → known (nodeTime fetch v) < 2 ^ 32
+unfolding nodeTime nodeTimeIn
+time-within fetch v = go (height v) v
+  where
+    below : (x : Time) → known x < 2 ^ 32 → (u : ℕ) (d : Fetched) → known (under u x d) < 2 ^ 32
+    below (refused r u) h w d = h
+    below (at p) h u outside = omega arith
+    below (at p) h u (value d) = elim (ℕ-discrete (u % 2) 0) [
+      | yes e ↦ elim (decLt p d) [
+        | yes l ↦ rw (e, lt-ltb p d l) (omega arith)
+        | no l ↦ rw (e, le-ltb p d (omega arith)) (omega arith)
+      ]
+      | no e ↦ elim (decLt (p + d) (2 ^ 32)) [
+        | yes l ↦ rw (ne-eqb (u % 2) 0 e, lt-ltb (p + d) (2 ^ 32) l) l
+        | no l ↦ rw (ne-eqb (u % 2) 0 e, le-ltb (p + d) (2 ^ 32) (omega arith)) (omega arith)
+      ]
+    ]
+
+    go : (f u : ℕ) → known (nodeTimeIn f fetch u) < 2 ^ 32
+    go zero u = omega arith
+    go (suc f) u = below (nodeTimeIn f fetch (u / 2)) (go f (u / 2)) u (fetch u)
+
+-- what an answer gives has 32 bits
+abbrev Small : Answer → Type 0
+Small (found t k) = t < 2 ^ 32
+Small (stopped r c) = Unit {0}
+
+met-small : (time : ℕ → Time) (t k : ℕ) → t < 2 ^ 32 → (vs : List ℕ) → Small (met time (found t k) vs)
+unfolding met
+met-small time t k h [] = h
+met-small time t k h (v ∷ vs) = go (time v) (met time (found t k) vs) (met-small time t k h vs)
+  where
+    go : (x : Time) (later : Answer) → Small later → Small (unless x later)
+    go (at p) later s = s
+    go (refused r u) later s = tt
+
+access-small : (levels : Levels) (s : List ℕ) (i : ℕ) → Small (accesses levels s i)
+unfolding accessAnswer
+access-small levels s i =
+    let nodes = toward (levels .pins) i in
+    let time = nodeTime (fetchedAt levels s) in
+    met-small time (known (time (lastOf 0 nodes))) (length nodes) (time-within (fetchedAt levels s) (lastOf 0 nodes)) nodes
+
+pub times-within : (levels : Levels) (s : List ℕ) (k i : ℕ) → Within 32 (timesFrom (accesses levels s) k i)
+unfolding timesFrom
+times-within levels s zero i j = omega arith
+times-within levels s (suc k) i j = go (accesses levels s i) (access-small levels s i) (timesFrom (accesses levels s) k (suc i)) (times-within levels s k (suc i)) j
+  where
+    go : (x : Answer) → Small x → (later : List ℕ) → Within 32 later → Within 32 (timeThen x later)
+    go (found t m) h later w zero = h
+    go (found t m) h later w (suc l) = w l
+    go (stopped r c) h later w l = omega arith
