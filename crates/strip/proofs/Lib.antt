@@ -1,6 +1,7 @@
 -- Laws that belong to no one function, each file about what its name says; Promises proves what specs/Promises states.
 pub mod Checks
 pub mod Counts
+pub mod Demands
 pub mod Gaps
 pub mod Images
 pub mod Layouts

@@ -1,5 +1,5 @@
 -- Tests one after the other.
-use mathlib.Core.Path.{_≡_, refl, ap}
+use mathlib.Core.Path.{_≡_, refl, sym, ap}
 use mathlib.Core.Bool.{Bool, true, false, true≢false}
 use mathlib.Core.List.{List, [], _∷_, _++_}
 use Prim.Native.Nat.{ℕ}
@@ -36,3 +36,14 @@ gives-refuses {A} e = true≢false (ap given e)
     given : Outcome A → Bool
     given (gives x) = true
     given (refuses r c) = false
+
+-- what is given is what comes after the tests, of which none holds
+pub verdict-passed : {A : Type 0} (b : Bool) (r c : ℕ) (ts : List Test) (a x : A) → verdict (test b r c ∷ ts) a ≡ gives x → (b ≡ false) × (verdict ts a ≡ gives x)
+unfolding verdict
+verdict-passed true r c ts a x e = absurd (gives-refuses (sym e))
+verdict-passed false r c ts a x e = (refl, e)
+
+pub verdict-gives : {A : Type 0} (ts : List Test) (a x : A) → verdict ts a ≡ gives x → a ≡ x
+unfolding verdict
+verdict-gives [] a x e = gives-same e
+verdict-gives (test b r c ∷ ts) a x e = verdict-gives ts a x (verdict-passed b r c ts a x e .1)

@@ -1,5 +1,5 @@
 -- What a strip and its calls mean, in the order of 01: Layout and Image its bytes, Opening and Calls what the calls answer. Lists,
--- Outcomes and Refusals have the words that these use. Marked has 01's cases, Promises what is shown besides the contracts. Opened,
+-- Outcomes and Refusals have the words that these use. Marked has 01's cases, Demands what is demanded of the calls together, Promises what else is shown. Opened,
 -- Written and Read are cited by private functions alone.
 pub mod Lists
 pub mod Outcomes
@@ -10,6 +10,7 @@ pub mod Opening
 pub mod Calls
 pub mod Marked
 pub mod Promises
+pub mod Demands
 pub mod Opened
 pub mod Written
 pub mod Read

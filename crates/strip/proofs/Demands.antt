@@ -1,0 +1,177 @@
+-- The demands of specs/Demands.
+use mathlib.Core.Path.{_≡_, refl, sym, ap, subst, _∙_}
+use mathlib.Core.Logic.{_↔_}
+use mathlib.Core.Bool.{Bool, true, false, not}
+use mathlib.Core.List.{List, [], _∷_, _++_, append-nil}
+use Prim.Native.Nat.{ℕ, _+_, _*_, _/_, _%_, _≤_, _<_}
+use native.Mathlib.Nat.{le-refl}
+use native.Mathlib.Omega.{arith}
+use lib.Dec.{T, eqb, ltb}
+use lib.ListN.{length, drop, length-append, length-drop}
+use lib.Seq.{drop-length}
+use borrow.Author.Tests.{eqb-false, ltb-false, not-false, le-ltb}
+use Rattle.codes.specs.Lists.{same}
+use Rattle.codes.specs.Codes.{Within}
+use Rattle.tree.specs.declared.nodes.Levels.{Levels}
+use Rattle.tree.specs.Lists.{ordered, smaller}
+use Rattle.tree.specs.Stored.{storedValues}
+use Rattle.tree.specs.Walks.{found, path}
+use Rattle.tree.specs.Listing.{nowhere, accesses, stopFrom}
+use Rattle.tree.proofs.Promises.{stored-levels, lists}
+use Rattle.strip.specs.declared.strip.Checked.{Checked}
+use Rattle.strip.specs.declared.strip.Checked.the-variants.{Pins, Refused}
+use Rattle.strip.specs.Lists.{firstLower}
+use Rattle.strip.specs.Outcomes.{Outcome, gives, refuses, verdict, after}
+use Rattle.strip.specs.Layout.{maxPins, pinsOf, laidOut}
+use Rattle.strip.specs.Image.{stripOf, image}
+use Rattle.strip.specs.Opening.{levelsIn, opening}
+use Rattle.strip.specs.Calls.{packAnswer, written, packOutput, searchOf, listIn, checkIn, checkOf, checked, plainList, unpackOf, unpackOutput}
+use Rattle.strip.specs.Promises.{Packable, Opens}
+use Rattle.strip.specs.Demands.{PacksTo, UnpacksTo, Accepted, CheckAccepts, CodeAccepts, Demand2}
+use Rattle.strip.proofs.Same.{same-lists, same-itself}
+use Rattle.strip.proofs.Verdicts.{gives-same, gives-refuses, verdict-gives, verdict-passed}
+use Rattle.strip.proofs.Readings.{check-all}
+use Rattle.strip.proofs.Checks.{list-count, accepts}
+use Rattle.strip.proofs.Promises.{packs-once, image-opens, round-trip}
+
+-- ---- from a list to its strip
+
+packs : (xs : List ℕ) → Packable xs → PacksTo xs (image xs)
+packs xs p out room = let once = packs-once xs out p room in (once .answer, once .output)
+
+-- the strip's levels hold the list, so check and unpack read it back
+module _ (xs : List ℕ) (p : Packable xs) where
+  abbrev levels : Levels
+  levels = image-opens xs p .0
+
+  opens : Opens xs levels
+  opens = image-opens xs p .1
+
+  list-back : listIn (image xs) levels ≡ xs
+  unfolding listIn
+  list-back = lists .times levels (image xs) xs (opens .held)
+
+  plain-back : plainList (image xs) ≡ xs
+  unfolding plainList
+  plain-back = rw (opens .opened) list-back
+
+  check-back : checkOf (image xs) ≡ gives (length xs)
+  unfolding checkOf verdict
+  check-back =
+      let stop = lists .stop levels (image xs) xs (opens .held) in
+      let o : ordered xs ≡ true = T-true (ordered xs) (p .in-order) in
+      rw (opens .opened) (check-all (image xs) levels stop ∙ rw (list-back, o, same-itself (image xs)) (ap gives (opens .held .stores .pins-are)))
+    where
+      T-true : (b : Bool) → T b → b ≡ true
+      T-true true h = refl
+      T-true false h = absurd h
+
+  unpacks-back : UnpacksTo (image xs) xs
+  unfolding unpackOf unpackOutput verdict
+  unpacks-back out room = rw (check-back, plain-back, le-ltb (length out) (length xs) room) (refl, refl)
+
+-- ---- from a strip to its list
+
+module _ (xs s : List ℕ) (to : PacksTo xs s) where
+  answer : packAnswer xs (length s) ≡ gives (length s)
+  answer = to s (le-refl (length s)) .0
+
+  length-is : length (image xs) ≡ length s
+  unfolding packAnswer
+  length-is = verdict-gives _ (length (image xs)) (length s) answer
+
+  image-is : s ≡ image xs
+  unfolding packOutput
+  image-is =
+      let e : image xs ++ drop (length (image xs)) s ≡ s ++ drop (length s) s = ap (λ (o : Outcome ℕ). written o (image xs) s) (sym answer) ∙ to s (le-refl (length s)) .1 in
+      sym (append-nil s) ∙ rw (length-is, drop-length s, append-nil (image xs)) at (sym e)
+
+  packable : Within 32 xs → Packable xs
+  unfolding packAnswer
+  packable w =
+      let a = verdict-passed (eqb (length xs) 0) _ _ _ _ _ answer in
+      let b = verdict-passed (ltb maxPins (length xs)) _ _ _ _ _ (a .1) in
+      let c = verdict-passed (not (ordered xs)) _ _ _ _ _ (b .1) in
+      record {
+        some = omega (arith, eqb-false (length xs) 0 (a .0));
+        few = ltb-false maxPins (length xs) (b .0);
+        times = w;
+        in-order = rw (not-false (ordered xs) (c .0)) tt;
+      }
+
+-- ---- check
+
+module _ (s : List ℕ) (levels : Levels) (o : opening s ≡ gives levels) (n : ℕ) (e : checkIn s levels ≡ gives n) where
+  abbrev xs : List ℕ
+  xs = listIn s levels
+
+  read-image : image xs ≡ s
+  read-image = same-lists (image xs) s (rw (accepts s levels n (sym e) .image-is) tt)
+
+  -- as many pins as the header tells
+  count : length xs ≡ pinsOf s
+  unfolding opening laidOut
+  count = list-count levels s nowhere (accepts s levels n (sym e) .all) ∙ ap (λ (l : Levels). l .pins) (sym (verdict-gives _ (levelsIn s) levels o))
+
+  some : (pinsOf s ≡ 0 → ⊥)
+  unfolding opening
+  some =
+      let a = verdict-passed _ _ _ _ _ _ o in
+      let b = verdict-passed _ _ _ _ _ _ (a .1) in
+      let c = verdict-passed _ _ _ _ _ _ (b .1) in
+      let d = verdict-passed (eqb (pinsOf s) 0) _ _ _ _ _ (c .1) in
+      eqb-false (pinsOf s) 0 (d .0)
+
+  few : length xs ≤ maxPins
+  unfolding stripOf
+  few =
+      let h : pinsOf (image xs) ≡ length (storedValues xs) / 256 % 256 * 256 + length (storedValues xs) % 256 = refl in
+      omega (arith, h, ap pinsOf read-image, count, stored-levels .count xs)
+
+  read-packable : Packable xs
+  unfolding listIn
+  read-packable = record {
+    some = omega (arith, count, some);
+    few = few;
+    times = lists .within levels s (levels .pins);
+    in-order = rw (accepts s levels n (sym e) .in-order) tt;
+  }
+
+accepted : (s : List ℕ) → CheckAccepts s → Accepted s
+unfolding checkOf
+accepted s (n, e) = go (opening s) refl e
+  where
+    go : (o : Outcome Levels) → opening s ≡ o → after o (checkIn s) ≡ gives n → Accepted s
+    go (gives levels) o c =
+        let p = read-packable s levels o n c in
+        (xs s levels o n c, p .times, subst (PacksTo (xs s levels o n c)) (read-image s levels o n c) (packs (xs s levels o n c) p))
+    go (refuses r q) o c = absurd (gives-refuses (sym c))
+
+check-accepts : (s : List ℕ) → Accepted s → CheckAccepts s
+check-accepts s (xs, w, to) = (length xs, ap checkOf (image-is xs s to) ∙ check-back xs (packable xs s to w))
+
+code-accepts : (s : List ℕ) (r : Checked) → checked r ≡ checkOf s → CodeAccepts r ↔ Accepted s
+code-accepts s (Pins n) e = (λ _. accepted s (n, sym e), λ _. tt)
+code-accepts s (Refused r) e = (λ h. absurd h, λ a. gives-refuses (sym (e ∙ check-accepts s a .1)))
+
+one-list : (s xs : List ℕ) → Within 32 xs → PacksTo xs s → Packable xs × (xs ≡ plainList s)
+one-list s xs w to =
+    let p = packable xs s to w in
+    (p, sym (ap plainList (image-is xs s to) ∙ plain-back xs p))
+
+searches : (s : List ℕ) → Accepted s → (t : ℕ) → searchOf s t ≡ found (smaller t (plainList s)) (length (path (plainList s) t))
+searches s (xs, w, to) t =
+    let one = one-list s xs w to in
+    ap (λ (l : List ℕ). searchOf l t) (image-is xs s to) ∙ round-trip xs (one .0) .search t ∙ ap (λ (l : List ℕ). found (smaller t l) (length (path l t))) (one .1)
+
+pub demand-2 : Demand2
+demand-2 = record {
+  packs = packs;
+  one-strip = image-is;
+  fewest-bits = image-opens;
+  unpacks = unpacks-back;
+  accepts = λ s. (accepted s, check-accepts s);
+  code-accepts = code-accepts;
+  one-list = one-list;
+  searches = searches;
+}
