@@ -1,4 +1,4 @@
-/* The marked cases of strip A by the C interface: packs it, looks it up, and fails where an answer differs. */
+/* The marked cases of strip A by the C interface: packs, looks up, checks and unpacks it, and fails where an answer differs. */
 #include "gemcotton.h"
 
 #include <stdio.h>
@@ -7,6 +7,11 @@
 static const uint32_t TIMES[] = {100, 250, 250, 400, 1000};
 static const uint8_t STRIP[] = {0x50, 0x49, 0x4E, 0x00, 0x01, 0x00, 0x05, 0x09, 0x00, 0x00, 0x00, 0x02, 0x0A, 0x00, 0x00,
                                 0x00, 0x03, 0x42, 0x00, 0x00, 0x00, 0x02, 0xC8, 0x00, 0x25, 0xA5, 0x80, 0xA2, 0xD4};
+
+/* The examples of refusals 11 and 12: A with node 5 storing 151, and the list 0 in code 65. */
+static const uint8_t FALLING[] = {0x50, 0x49, 0x4E, 0x00, 0x01, 0x00, 0x05, 0x09, 0x00, 0x00, 0x00, 0x02, 0x0A, 0x00, 0x00,
+                                  0x00, 0x03, 0x08, 0x00, 0x00, 0x00, 0x02, 0xC8, 0x00, 0x25, 0xA5, 0x80, 0x96, 0x97};
+static const uint8_t OTHER[] = {0x50, 0x49, 0x4E, 0x00, 0x01, 0x00, 0x01, 0x41, 0x00, 0x00, 0x00, 0x01, 0x00};
 
 static int differs(const char *what, struct gemcotton_answer answer, size_t refusal, size_t value, size_t nodes) {
   if (answer.refusal == refusal && answer.value == value && answer.nodes == nodes) {
@@ -18,6 +23,8 @@ static int differs(const char *what, struct gemcotton_answer answer, size_t refu
 
 int main(void) {
   uint8_t out[sizeof STRIP + 1];
+  uint32_t list[6] = {7, 7, 7, 7, 7, 7};
+  static const uint32_t untouched[6] = {7, 7, 7, 7, 7, 7};
   int faults = 0;
   memset(out, 0x77, sizeof out);
   faults += differs("short", gemcotton_pack(out, sizeof STRIP - 1, TIMES, 5), GEMCOTTON_SHORT, sizeof STRIP, 0);
@@ -28,6 +35,18 @@ int main(void) {
   faults += differs("position", gemcotton_access(out, sizeof STRIP, 5), GEMCOTTON_POSITION, 0, 0);
   faults += differs("search", gemcotton_search(out, sizeof STRIP, 250), 0, 1, 3);
   faults += differs("up-to", gemcotton_up_to(out, sizeof STRIP, 250), 0, 3, 3);
+  faults += differs("check", gemcotton_check(out, sizeof STRIP), 0, 5, 0);
+  faults += differs("no room", gemcotton_unpack(list, 4, out, sizeof STRIP), GEMCOTTON_SHORT, 5, 0);
+  faults += differs("times fall", gemcotton_check(FALLING, sizeof FALLING), GEMCOTTON_TIMES_FALL, 3, 0);
+  faults += differs("times fall in unpack", gemcotton_unpack(list, 6, FALLING, sizeof FALLING), GEMCOTTON_TIMES_FALL, 3, 0);
+  faults += differs("times fall in repeat", gemcotton_repeat(FALLING, sizeof FALLING, 150), GEMCOTTON_TIMES_FALL, 3, 0);
+  faults += differs("image", gemcotton_check(OTHER, sizeof OTHER), GEMCOTTON_IMAGE, 0, 0);
+  faults += differs("image in unpack", gemcotton_unpack(list, 6, OTHER, sizeof OTHER), GEMCOTTON_IMAGE, 0, 0);
+  faults += memcmp(list, untouched, sizeof list) != 0;
+  faults += differs("unpack", gemcotton_unpack(list, 6, out, sizeof STRIP), 0, 5, 0);
+  faults += memcmp(list, TIMES, sizeof TIMES) != 0 || list[5] != 7;
+  faults += differs("repeat", gemcotton_repeat(out, sizeof STRIP, 150), 0, 2, 0);
+  faults += differs("no repeat", gemcotton_repeat(out, sizeof STRIP, 0), 0, 0, 0);
   faults += gemcotton_height(GEMCOTTON_MAX_PINS) != GEMCOTTON_MAX_HEIGHT || gemcotton_root_place(4) != 3;
   return faults != 0;
 }

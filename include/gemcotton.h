@@ -28,13 +28,15 @@ enum gemcotton_refusal {
   GEMCOTTON_EMPTY = 1,      /* no pins: 0 */
   GEMCOTTON_TOO_MANY = 2,   /* more than 65,535 pins: 0 */
   GEMCOTTON_LIST_FALLS = 3, /* the list falls: the first lower position */
-  GEMCOTTON_SHORT = 4,      /* the output is shorter than needed: the bytes needed */
+  GEMCOTTON_SHORT = 4,      /* the output is shorter than needed: the bytes (pack) or entries (unpack) needed */
   GEMCOTTON_CUT = 5,        /* the strip is cut short: 0 */
   GEMCOTTON_MARK = 6,       /* a mark other than PIN: 0 */
   GEMCOTTON_VERSION = 7,    /* a version other than 1: 0 */
   GEMCOTTON_CODE = 8,       /* a level code that is refused: the level, counted from 1 */
   GEMCOTTON_FETCH = 9,      /* a fetch passes its part, or its value is 2^32 or more: the node */
   GEMCOTTON_TIME = 10,      /* a time below 0 or above 4,294,967,295: the node */
+  GEMCOTTON_TIMES_FALL = 11, /* the strip's times fall: the position of the lower time */
+  GEMCOTTON_IMAGE = 12,     /* bytes other than those that the strip's list packs to: 0 */
   GEMCOTTON_LENGTH = 13,    /* a length that is not 7 + 5h and the parts', h the height: 0 */
   GEMCOTTON_POSITION = 14   /* a position at or past the pin count: 0 */
 };
@@ -57,8 +59,8 @@ size_t gemcotton_root_place(size_t n);
 struct gemcotton_answer gemcotton_pack(uint8_t *out, size_t out_length, const uint32_t *times, size_t times_length);
 
 /* The reading calls open the strip first, refused in this order: 5 (under 7 bytes), 6, 7, 1, 5 (under 7 + 5h), 8 from level 1
- * on, 13. Then they open nodes, and the first node with 9 or 10 ends them. What they give is said of a strip that some list packs
- * to; on any other they take the same steps down the tree. */
+ * on, 13. Then they open nodes, and the first node with 9 or 10 ends them. What access, search and up-to give is said of a strip that
+ * some list packs to; on any other they take the same steps down the tree. */
 
 /* Gives the time at position i and the nodes opened, from the root to the node of that position. Refused with 14 after opening. */
 struct gemcotton_answer gemcotton_access(const uint8_t *strip, size_t strip_length, size_t i);
@@ -71,6 +73,21 @@ struct gemcotton_answer gemcotton_search(const uint8_t *strip, size_t strip_leng
 /* Gives the number of strikes at or before the time, and the nodes opened: the pin count and 0 nodes for 4,294,967,295, where only
  * opening is refused; otherwise what a search for the time plus 1 gives. */
 struct gemcotton_answer gemcotton_up_to(const uint8_t *strip, size_t strip_length, uint32_t time);
+
+/* The three calls below read all positions and count no nodes. For each position from 0 on they give access's refusal, then 11
+ * where its time is lower than the one before. A call takes under 1 MiB of the stack, however short the strip. */
+
+/* Gives the pin count of a strip that some list packs to. Refused for any other: by the first position with a refusal or with 11,
+ * and after the last position with 12, where packing the times so read gives other bytes. */
+struct gemcotton_answer gemcotton_check(const uint8_t *strip, size_t strip_length);
+
+/* Writes the list that packs to the strip to the front of `out`, whose later entries keep their content. Gives the pin count.
+ * Refused as check is, then with 4, which carries the pin count, also for an output of length 0. */
+struct gemcotton_answer gemcotton_unpack(uint32_t *out, size_t out_length, const uint8_t *strip, size_t strip_length);
+
+/* Gives the first position, from 1 on, whose time is less than r milliseconds after the one before, or 0 where there is none. At each
+ * position the gap is tested after the refusals, so a gap found comes before every refused position. 12 is not looked for. */
+struct gemcotton_answer gemcotton_repeat(const uint8_t *strip, size_t strip_length, uint32_t r);
 
 #ifdef __cplusplus
 }

@@ -7,4 +7,5 @@ pub mod proved;
 pub mod random;
 pub mod reference;
 pub mod straightforward;
+pub mod strips;
 pub mod tally;

@@ -49,3 +49,8 @@ pub fn chunks(number: u64, b: u32) -> Vec<u32> {
     }
     chunks
 }
+
+/// The chunks of each value.
+pub fn chains(values: &[u32], b: u32) -> Vec<Vec<u32>> {
+    values.iter().map(|&v| chunks(v.into(), b)).collect()
+}

@@ -4,30 +4,21 @@
 use std::fmt::Debug;
 
 use gemcotton_tests::lists::{
-    around_powers, few_lists, few_pins, lists, rising, some_positions, targets, Answers,
+    around_powers, few_lists, few_pins, rising, some_positions, targets, Answers,
 };
-use gemcotton_tests::parts::{any_code, chosen, chunks, part_of_chunks};
+use gemcotton_tests::parts::{any_code, chains, chosen, chunks, part_of_chunks};
 use gemcotton_tests::random::Random;
 use gemcotton_tests::reference::strip as reference;
-use gemcotton_tests::reference::strip::{image, Refusal, PINS};
+use gemcotton_tests::reference::strip::{image, refused, Refusal, PINS};
 use gemcotton_tests::reference::tree::{
-    height, nodes_of_level, parts_of_values, rank, root_place, stored, HEIGHT,
+    height, nodes_of_level, parts_of_values, rank, root_place, stored, values_of_level, HEIGHT,
+};
+use gemcotton_tests::strips::{
+    change_bytes, changed_b, damage_level, faulty, fill_parts, many_levels, pins, random_strip,
+    small_strips, surrounded, wrapping_lengths, A, B, TIMES_A,
 };
 use gemcotton_tests::tally::Tally;
 use gemcotton_tests::{proved, straightforward};
-
-/// List A and its strip.
-const TIMES_A: [u32; 5] = [100, 250, 250, 400, 1000];
-const A: [u8; 29] = [
-    0x50, 0x49, 0x4E, 0x00, 0x01, 0x00, 0x05, // PIN, version, pins
-    0x09, 0x00, 0x00, 0x00, 0x02, // level 1
-    0x0A, 0x00, 0x00, 0x00, 0x03, // level 2
-    0x42, 0x00, 0x00, 0x00, 0x02, // level 3
-    0xC8, 0x00, 0x25, 0xA5, 0x80, 0xA2, 0xD4, // parts
-];
-
-/// The strip of the list 0.
-const B: [u8; 12] = [0x50, 0x49, 0x4E, 0, 1, 0, 1, 0, 0, 0, 0, 0];
 
 // ---- Comparisons ----
 
@@ -61,10 +52,6 @@ const COMPARED: [Calls; 2] = [
         up_to: straightforward::strip::up_to,
     },
 ];
-
-fn refused<T>(number: usize, carried: usize) -> Result<T, Refusal> {
-    Err(Refusal { number, carried })
-}
 
 /// Packs into this much room, with other bytes around it. Nothing but the image may change.
 /// Gives the reference's result, which the others share.
@@ -185,13 +172,9 @@ fn check_list(times: &[u32], strip: &[u8], random: &mut Random) {
 
 /// Compares the calls on bytes that need not be a strip, with other bytes on both sides.
 fn check_damaged(strip: &[u8], tally: &mut Tally, random: &mut Random) {
-    let before = random.below(8);
-    let memory = [&random.bytes(before), strip, &random.bytes(8)].concat();
-    let strip = Strip(&memory[before..before + strip.len()]);
-    let n = match strip.0 {
-        [_, _, _, _, _, high, low, ..] => 256 * usize::from(*high) + usize::from(*low),
-        _ => 0,
-    };
+    let (memory, place) = surrounded(strip, random);
+    let strip = Strip(&memory[place]);
+    let n = pins(strip.0);
     let mut targets = vec![0, u32::MAX, random.skewed(), random.of_width(32)];
     for i in some_positions(n, random) {
         if let Some((time, _)) = tally.add(strip.access(i)) {
@@ -205,20 +188,6 @@ fn check_damaged(strip: &[u8], tally: &mut Tally, random: &mut Random) {
         tally.add(strip.search(t));
         tally.add(strip.up_to(t));
     }
-}
-
-/// A level's code and part.
-type Level = (u8, Vec<u8>);
-
-/// The levels of lists of all sorts, in the chosen codes and in others.
-fn many_levels(n: usize, random: &mut Random) -> Vec<Vec<Level>> {
-    let mut many = Vec::new();
-    for times in lists(n, random) {
-        let values = stored(&times);
-        many.push(parts_of_values(&values, chosen));
-        many.push(parts_of_values(&values, any_code(random)));
-    }
-    many
 }
 
 // ---- Shape ----
@@ -383,7 +352,7 @@ fn wasteful_strips() {
 
 /// The chunks of some nodes' values, with chunks of zeros on top of some.
 fn with_zeros(values: &[u32], b: u32, random: &mut Random) -> Vec<Vec<u32>> {
-    let mut chains: Vec<Vec<u32>> = values.iter().map(|&v| chunks(v.into(), b)).collect();
+    let mut chains = chains(values, b);
     for chain in &mut chains {
         let zeros = [0, 0, 1, 33, random.below(100)][random.below(5)];
         chain.resize(chain.len() + zeros, 0);
@@ -402,9 +371,8 @@ fn chunks_made_by_hand() {
             let mut levels = parts_of_values(&values, any_code(&mut random));
             let v = 1 + random.below(n);
             let level = height(v);
-            let nodes = nodes_of_level(n, level);
-            let index = v - nodes.start();
-            let mut chains = with_zeros(&values[nodes.start() - 1..*nodes.end()], b, &mut random);
+            let index = v - nodes_of_level(n, level).start();
+            let mut chains = with_zeros(values_of_level(&values, level), b, &mut random);
             let mut strip = |chains: &[Vec<u32>]| {
                 levels[level - 1] = (64 + b as u8, part_of_chunks(chains, b));
                 image(n, &levels)
@@ -495,19 +463,6 @@ fn refusals_at_every_level() {
 
 // ---- Damaged strips ----
 
-/// Strips of a few dozen bytes in codes of all sorts.
-fn small_strips(random: &mut Random) -> Vec<Vec<u8>> {
-    let mut strips = vec![A.to_vec(), B.to_vec()];
-    for n in [2, 3, 4, 7, 8, 12] {
-        let low = rising(n, || random.of_width(4));
-        let high: Vec<u32> = low.iter().rev().map(|&time| !time).collect();
-        let chunked = parts_of_values(&stored(&low), |level, _| 65 + (n + level) as u8 % 8);
-        strips.push(image(n, &chunked));
-        strips.push(image(n, &parts_of_values(&stored(&high), chosen)));
-    }
-    strips
-}
-
 #[test]
 fn every_change_of_one_byte() {
     let mut random = Random(9);
@@ -561,10 +516,7 @@ fn changed_bytes() {
                 // In half of the rounds the header stays whole, if there are other bytes.
                 let header = (7 + 5 * height(n)).min(strip.len() - 1);
                 let from = round % 2 * header;
-                for _ in 0..=random.below(3) {
-                    let place = from + random.below(strip.len() - from);
-                    strip[place] = random.draw() as u8;
-                }
+                change_bytes(&mut strip, from, &mut random);
                 check_damaged(&strip, &mut tally, &mut random);
             }
         }
@@ -580,15 +532,7 @@ fn parts_of_random_bytes() {
         for levels in many_levels(n, &mut random) {
             for ones in [1, 3, 8, 13] {
                 let mut levels = levels.clone();
-                // One level, or as often all.
-                let one = random.below(2 * levels.len());
-                let all = one >= levels.len();
-                for (level, (_, part)) in levels.iter_mut().enumerate() {
-                    if all || level == one {
-                        let length = (part.len() + random.below(6)).saturating_sub(2);
-                        *part = random.dense_bytes(length, ones);
-                    }
-                }
+                fill_parts(&mut levels, ones, &mut random);
                 check_damaged(&image(n, &levels), &mut tally, &mut random);
             }
         }
@@ -605,30 +549,11 @@ fn damage_in_long_lists() {
         let levels = parts_of_values(&stored(&times), chosen);
         for round in 0..12 {
             let mut levels = levels.clone();
-            let level = random.below(levels.len());
-            let (code, part) = &mut levels[level];
-            match round % 3 {
-                0 => *code = 65 + random.draw() as u8 % 8,
-                1 => part.truncate(random.below(part.len() + 1)),
-                _ => {
-                    for (_, part) in &mut levels[level..] {
-                        for _ in 0..=part.len() / 300 {
-                            let place = random.below(part.len());
-                            part[place] = random.draw() as u8;
-                        }
-                    }
-                }
-            }
+            damage_level(&mut levels, round, &mut random);
             check_damaged(&image(n, &levels), &mut tally, &mut random);
         }
     }
     tally.require(&[0, 9, 10, 14], 50);
-}
-
-/// Puts another length into a level's entry.
-fn set_length(strip: &mut [u8], level: usize, length: u32) {
-    let place = 7 + 5 * (level - 1) + 1;
-    strip[place..place + 4].copy_from_slice(&length.to_be_bytes());
 }
 
 #[test]
@@ -636,35 +561,9 @@ fn lengths_whose_sum_would_wrap() {
     let mut random = Random(14);
     for n in few_pins().chain([1000, 40_000, PINS]).filter(|&n| n > 1) {
         let times = rising(n, || random.of_width(3));
-        let h = height(n);
-        let strip = image(n, &parts_of_values(&stored(&times), chosen));
-        let parts = (strip.len() - 7 - 5 * h) as u32;
-        for round in 0..40 {
-            let mut strip = strip.clone();
-            // Random lengths, or some just below 2^32, a half or a quarter of it. In 32 bits
-            // the last makes the sum right.
-            let mut sum = 0u32;
-            for level in 1..h {
-                let near = [0, 1 << 30, 1 << 31][random.below(3)];
-                let length = match round % 2 {
-                    0 => random.of_width(32),
-                    _ => u32::wrapping_sub(near, 1 + random.of_width(3)),
-                };
-                set_length(&mut strip, level, length);
-                sum = sum.wrapping_add(length);
-            }
-            set_length(&mut strip, h, parts.wrapping_sub(sum));
+        for strip in wrapping_lengths(&times, &mut random) {
             Strip(&strip).check_refused(13, 0);
         }
-        let mut greatest = strip.clone();
-        (1..=h).for_each(|level| set_length(&mut greatest, level, u32::MAX));
-        Strip(&greatest).check_refused(13, 0);
-        // As if level 1 had -1 bytes.
-        let mut less = strip.clone();
-        (1..=h).for_each(|level| set_length(&mut less, level, 0));
-        set_length(&mut less, 1, u32::MAX);
-        set_length(&mut less, 2, parts + 1);
-        Strip(&less).check_refused(13, 0);
     }
 }
 
@@ -674,78 +573,20 @@ fn random_headers() {
     let mut tally = Tally::default();
     let counts = around_powers(PINS);
     for _ in 0..20_000 {
-        let n = match random.below(4) {
-            0 => random.below(PINS + 1),
-            1 => counts[random.below(counts.len())],
-            _ => random.below(20),
-        };
-        let mut level = |_| {
-            let any = random.draw() as u8;
-            let code = match random.below(60) {
-                0 => any,
-                1..=30 => any % 33,
-                _ => 65 + any % 8,
-            };
-            let length = random.below(9);
-            (code, random.bytes(length))
-        };
-        let levels: Vec<Level> = (0..height(n)).map(&mut level).collect();
-        let mut strip = image(n, &levels);
-        let (length, h) = (strip.len(), levels.len());
-        match random.below(12) {
-            0 => strip[random.below(3)] = random.draw() as u8,
-            1 => strip[3 + random.below(2)] = random.draw() as u8,
-            2 => strip[5 + random.below(2)] = random.draw() as u8,
-            3 => strip.truncate(random.below(length)),
-            4 => strip.push(0),
-            5 if h > 0 => set_length(&mut strip, 1 + random.below(h), random.skewed()),
-            6 => strip.splice(5.., random.bytes(length)).for_each(drop),
-            _ => {}
-        }
+        let strip = random_strip(&counts, &mut random);
         check_damaged(&strip, &mut tally, &mut random);
     }
     tally.require(&[0, 1, 5, 6, 7, 8, 9, 10, 13, 14], 1000);
 }
 
-/// What is done to a strip, and the refusal that it leads to.
-type Fault = (fn(&mut Vec<u8>), usize, usize);
-
-/// Faults of A, those that are tested for later first.
-const FAULTS: [Fault; 9] = [
-    (|strip| strip.push(0), 13, 0),
-    (|strip| strip[8..12].fill(0xFF), 13, 0),
-    (|strip| strip[17] = 73, 8, 3),
-    (|strip| strip[7] = 33, 8, 1),
-    (|strip| strip.truncate(21), 5, 0),
-    (|strip| strip[5..7].fill(0), 1, 0),
-    (|strip| strip[4] = 2, 7, 0),
-    (|strip| strip[2] = 0x4F, 6, 0),
-    (|strip| strip.truncate(6), 5, 0),
-];
-
 #[test]
 fn order_of_refusals_at_opening() {
-    for set in 1..1 << FAULTS.len() {
-        let mut strip = A.to_vec();
-        let mut expected = (0, 0);
-        for (place, (fault, number, carried)) in FAULTS.into_iter().enumerate() {
-            if set >> place & 1 == 1 {
-                fault(&mut strip);
-                expected = (number, carried);
-            }
-        }
-        Strip(&strip).check_refused(expected.0, expected.1);
+    for (strip, (number, carried)) in faulty() {
+        Strip(&strip).check_refused(number, carried);
     }
 }
 
 // ---- Marked cases and examples ----
-
-/// B with one byte changed.
-fn changed_b(place: usize, byte: u8) -> [u8; 12] {
-    let mut strip = B;
-    strip[place] = byte;
-    strip
-}
 
 #[test]
 fn marked_cases() {

@@ -1,4 +1,5 @@
 -- The answers of the calls as three numbers.
+use mathlib.Core.Option.{Option, none, some}
 use Prim.Native.Nat.{ℕ}
 use Rattle.tree.specs.Walks as walks
 use Rattle.strip.specs.declared.refusals.Refusal.{Refusal}
@@ -19,3 +20,9 @@ ofWalk (walks.stopped r c) = record { refusal = r; value = c; nodes = 0 }
 abbrev pub ofOutcome : Outcome ℕ → Answer
 ofOutcome (gives x) = record { refusal = 0; value = x; nodes = 0 }
 ofOutcome (refuses r c) = record { refusal = r; value = c; nodes = 0 }
+
+-- of repeat: a position from 1 on, or 0 for none
+abbrev pub ofRepeat : Outcome (Option ℕ) → Answer
+ofRepeat (gives none) = record { refusal = 0; value = 0; nodes = 0 }
+ofRepeat (gives (some i)) = record { refusal = 0; value = i; nodes = 0 }
+ofRepeat (refuses r c) = record { refusal = r; value = c; nodes = 0 }

@@ -2,11 +2,13 @@
 ghost use mathlib.Core.Path.{_≡_};
 ghost use lib.ListN.{length};
 ghost use Rattle.tree.specs.Shape.{height, rootPlace};
-ghost use Rattle.strip.specs.Calls.{packAnswer, packOutput, accessOf, searchOf, searched, upToOf};
-ghost use Rattle.strip_c.specs.Numbers.{ofRefusal, ofWalk, ofOutcome};
+ghost use Rattle.strip.specs.Calls.{packAnswer, packOutput, accessOf, searchOf, searched, upToOf, checkOf, checked, unpackOf, unpackOutput, repeatOf};
+ghost use Rattle.strip_c.specs.Numbers.{ofRefusal, ofWalk, ofOutcome, ofRepeat};
 use strip::Accessed;
+use strip::Checked;
 use strip::Packed;
 use strip::Refusal;
+use strip::Repeated;
 use strip::Searched;
 use strip::Strip;
 
@@ -28,32 +30,13 @@ fn given(value: usize, nodes: usize) -> Answer
     }
 }
 
-fn numbered(number: usize, carried: usize) -> Answer
-    ensures { λ r. ⌜ r ≡ record { refusal = number; value = carried; nodes = 0 } ⌝ }
-{
-    Answer {
-        refusal: number,
-        value: carried,
-        nodes: 0,
-    }
-}
-
 fn refused(r: Refusal) -> Answer
     ensures { λ x. ⌜ x ≡ ofRefusal r ⌝ }
 {
-    match r {
-        Refusal::Empty => numbered(1, 0),
-        Refusal::TooMany => numbered(2, 0),
-        Refusal::ListFalls(i) => numbered(3, i),
-        Refusal::Short(needed) => numbered(4, needed),
-        Refusal::Cut => numbered(5, 0),
-        Refusal::Mark => numbered(6, 0),
-        Refusal::Version => numbered(7, 0),
-        Refusal::Code(level) => numbered(8, level),
-        Refusal::Fetch(node) => numbered(9, node),
-        Refusal::Time(node) => numbered(10, node),
-        Refusal::Length => numbered(13, 0),
-        Refusal::Position => numbered(14, 0),
+    Answer {
+        refusal: r.number(),
+        value: r.carried(),
+        nodes: 0,
     }
 }
 
@@ -64,6 +47,16 @@ fn found(r: Searched) -> Answer
     match r {
         Searched::Position(p, nodes) => given(p, nodes),
         Searched::Refused(r) => refused(r),
+    }
+}
+
+// The answer of check or of unpack.
+fn counted(r: Checked) -> Answer
+    ensures { λ x. ⌜ x ≡ ofOutcome (checked r) ⌝ }
+{
+    match r {
+        Checked::Pins(n) => given(n, 0),
+        Checked::Refused(r) => refused(r),
     }
 }
 
@@ -116,4 +109,31 @@ pub extern "C" fn gemcotton_up_to(s: &[u8], t: u32) -> Answer
     ensures { λ r. ⌜ r ≡ ofWalk (upToOf (now (s .entry)) t) ⌝ }
 {
     found(Strip::up_to(s, t))
+}
+
+#[no_mangle]
+pub extern "C" fn gemcotton_check(s: &[u8]) -> Answer
+    ensures { λ r. ⌜ r ≡ ofOutcome (checkOf (now (s .entry))) ⌝ }
+{
+    counted(Strip::check(s))
+}
+
+#[no_mangle]
+pub extern "C" fn gemcotton_unpack(out: &mut [u32], s: &[u8]) -> Answer
+    ensures { λ r. ⌜ r ≡ ofOutcome (unpackOf (now (s .entry)) (length (now (out .entry)))) ⌝ }
+    ensures { λ r. ⌜ now (out .exit) ≡ unpackOutput (now (s .entry)) (now (out .entry)) ⌝ }
+{
+    counted(Strip::unpack(out, s))
+}
+
+#[no_mangle]
+pub extern "C" fn gemcotton_repeat(s: &[u8], r: u32) -> Answer
+    ensures { λ x. ⌜ x ≡ ofRepeat (repeatOf (now (s .entry)) r) ⌝ }
+{
+    let repeated = Strip::repeat(s, r);
+    match repeated {
+        Repeated::First(i) => given(i, 0),
+        Repeated::None => given(0, 0),
+        Repeated::Refused(why) => refused(why),
+    }
 }

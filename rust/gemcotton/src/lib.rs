@@ -6,7 +6,7 @@
 //! breaks the C header's promises.
 //!
 //! ```
-//! use gemcotton::{access, pack, search, up_to, Refusal};
+//! use gemcotton::{access, check, pack, repeat, search, unpack, up_to, Refusal};
 //!
 //! let mut out = [0; 64];
 //! let length = pack(&mut out, &[100, 250, 250, 400, 1000])?;
@@ -18,16 +18,31 @@
 //! assert_eq!(search(strip, 251)?.position, 3);
 //! assert_eq!(up_to(strip, 250)?.strikes, 3);
 //! assert_eq!(access(strip, 5), Err(Refusal::Position));
+//!
+//! // The strip is that of a list, which can be read back.
+//! assert_eq!(check(strip)?, 5);
+//! let mut times = [0; 5];
+//! unpack(&mut times, strip)?;
+//! assert_eq!(times, [100, 250, 250, 400, 1000]);
+//! // The first strike less than 150 ms after the one before has position 2.
+//! assert_eq!(repeat(strip, 150)?, Some(2));
+//! assert_eq!(repeat(strip, 0)?, None);
 //! # Ok::<(), Refusal>(())
 //! ```
 //!
 //! # Opening
 //!
-//! [`access`], [`search`] and [`up_to`] open the strip first. They are refused where it is cut
-//! short in its first 7 bytes ([`Cut`](Refusal::Cut)), then by its [`Mark`](Refusal::Mark), its
+//! Every call that reads a strip opens it first. It is refused where the strip is cut short in
+//! its first 7 bytes ([`Cut`](Refusal::Cut)), then by its [`Mark`](Refusal::Mark), its
 //! [`Version`](Refusal::Version), a pin count of 0 ([`Empty`](Refusal::Empty)), level entries
 //! cut short ([`Cut`](Refusal::Cut)), the first refused [`Code`](Refusal::Code) of a level, and a
 //! wrong [`Length`](Refusal::Length), in this order.
+//!
+//! # Reading all positions
+//!
+//! After opening, [`check`], [`unpack`] and [`repeat`] read the positions from 0 on. At each they
+//! are refused as [`access`] is there, then by [`TimesFall`](Refusal::TimesFall) where the time
+//! is lower than the one before. A call takes under 1 MiB of the stack, however short the strip.
 
 #![warn(missing_docs)]
 
@@ -58,7 +73,7 @@ pub enum Refusal {
     },
     /// 4: the output is shorter than needed.
     Short {
-        /// The bytes needed.
+        /// The bytes ([`pack`]) or entries ([`unpack`]) needed.
         needed: usize,
     },
     /// 5: the strip is cut short.
@@ -82,6 +97,13 @@ pub enum Refusal {
         /// The node of that time.
         node: usize,
     },
+    /// 11: the strip's times fall.
+    TimesFall {
+        /// The first position with a lower time than the one before.
+        position: usize,
+    },
+    /// 12: the strip has other bytes than its list packs to.
+    Image,
     /// 13: the strip's length is not that of its header, level entries and parts.
     Length,
     /// 14: the position is not below the pin count.
@@ -102,6 +124,8 @@ impl Refusal {
             (8, level) => Refusal::Code { level },
             (9, node) => Refusal::Fetch { node },
             (10, node) => Refusal::Time { node },
+            (11, position) => Refusal::TimesFall { position },
+            (12, 0) => Refusal::Image,
             (13, 0) => Refusal::Length,
             (14, 0) => Refusal::Position,
             _ => return None,
@@ -121,15 +145,17 @@ impl Refusal {
             Refusal::Code { .. } => 8,
             Refusal::Fetch { .. } => 9,
             Refusal::Time { .. } => 10,
+            Refusal::TimesFall { .. } => 11,
+            Refusal::Image => 12,
             Refusal::Length => 13,
             Refusal::Position => 14,
         }
     }
 
-    /// What this refusal carries in 01: a position, bytes, a level or a node, else 0.
+    /// What this refusal carries in 01: a position, bytes or entries, a level or a node, else 0.
     pub fn carried(&self) -> usize {
         match *self {
-            Refusal::ListFalls { position } => position,
+            Refusal::ListFalls { position } | Refusal::TimesFall { position } => position,
             Refusal::Short { needed } => needed,
             Refusal::Code { level } => level,
             Refusal::Fetch { node } | Refusal::Time { node } => node,
@@ -138,6 +164,7 @@ impl Refusal {
             | Refusal::Cut
             | Refusal::Mark
             | Refusal::Version
+            | Refusal::Image
             | Refusal::Length
             | Refusal::Position => 0,
         }
@@ -159,6 +186,10 @@ impl fmt::Display for Refusal {
             Refusal::Code { level } => write!(f, "level {level} has a refused code"),
             Refusal::Fetch { node } => write!(f, "node {node} has no 32-bit value in its part"),
             Refusal::Time { node } => write!(f, "the time of node {node} is not a 32-bit number"),
+            Refusal::TimesFall { position } => {
+                write!(f, "the strip's times fall at position {position}")
+            }
+            Refusal::Image => write!(f, "the strip is not what its list packs to"),
             Refusal::Length => write!(f, "the strip's length is not its header and parts"),
             Refusal::Position => write!(f, "the position is not below the pin count"),
         }
@@ -207,6 +238,9 @@ struct Answer {
 const PACK: [usize; 4] = [1, 2, 3, 4];
 const ACCESS: [usize; 9] = [5, 6, 7, 1, 8, 13, 14, 9, 10];
 const SEARCH: [usize; 8] = [5, 6, 7, 1, 8, 13, 9, 10];
+const CHECK: [usize; 10] = [5, 6, 7, 1, 8, 13, 9, 10, 11, 12];
+const UNPACK: [usize; 11] = [5, 6, 7, 1, 8, 13, 9, 10, 11, 12, 4];
+const REPEAT: [usize; 9] = [5, 6, 7, 1, 8, 13, 9, 10, 11];
 
 impl Answer {
     /// The value and the nodes opened, or the refusal, which has one of these numbers.
@@ -219,6 +253,14 @@ impl Answer {
             Some(refusal) if self.nodes == 0 && numbers.contains(&self.refusal) => Err(refusal),
             _ => panic!("the C header allows no such answer: {self:?}"),
         }
+    }
+
+    /// As `outcome`, of a call that counts no nodes.
+    #[inline]
+    fn value(self, numbers: &[usize]) -> Result<usize, Refusal> {
+        let (value, nodes) = self.outcome(numbers)?;
+        assert_eq!(nodes, 0, "the call counts no nodes");
+        Ok(value)
     }
 }
 
@@ -234,6 +276,14 @@ extern "C" {
     fn gemcotton_access(strip: *const u8, strip_length: usize, i: usize) -> Answer;
     fn gemcotton_search(strip: *const u8, strip_length: usize, target: u32) -> Answer;
     fn gemcotton_up_to(strip: *const u8, strip_length: usize, time: u32) -> Answer;
+    fn gemcotton_check(strip: *const u8, strip_length: usize) -> Answer;
+    fn gemcotton_unpack(
+        out: *mut u32,
+        out_length: usize,
+        strip: *const u8,
+        strip_length: usize,
+    ) -> Answer;
+    fn gemcotton_repeat(strip: *const u8, strip_length: usize, r: u32) -> Answer;
 }
 
 /// The height of the tree of n pins: the least h with 2^h - 1 >= n.
@@ -263,9 +313,7 @@ pub fn pack(out: &mut [u8], times: &[u32]) -> Result<usize, Refusal> {
     // overlaps nothing.
     let answer =
         unsafe { gemcotton_pack(out.as_mut_ptr(), out.len(), times.as_ptr(), times.len()) };
-    let (length, nodes) = answer.outcome(&PACK)?;
-    assert_eq!(nodes, 0, "a pack opens no nodes");
-    Ok(length)
+    answer.value(&PACK)
 }
 
 /// Gives the time at position i and the nodes opened, from the root to that time's node.
@@ -309,13 +357,54 @@ pub fn up_to(strip: &[u8], time: u32) -> Result<UpTo, Refusal> {
     Ok(UpTo { strikes, nodes })
 }
 
+/// Gives the pin count of a strip that some list packs to, and refuses every other one.
+///
+/// Refused as in [opening](crate#opening), then in
+/// [reading all positions](crate#reading-all-positions), then by [`Image`](Refusal::Image)
+/// where packing the times so read gives other bytes.
+#[inline]
+pub fn check(strip: &[u8]) -> Result<usize, Refusal> {
+    // SAFETY: the pointer and length are a slice's, so not null.
+    let answer = unsafe { gemcotton_check(strip.as_ptr(), strip.len()) };
+    answer.value(&CHECK)
+}
+
+/// Writes the list that packs to the strip to the front of `out`, whose later entries keep
+/// their content. Gives the pin count.
+///
+/// Refused, with nothing written, as [`check`] is, then by [`Short`](Refusal::Short), which
+/// carries the pin count, also for an empty `out`.
+#[inline]
+pub fn unpack(out: &mut [u32], strip: &[u8]) -> Result<usize, Refusal> {
+    // SAFETY: the pointers and lengths are slices', so not null. Only `out` is written, and it
+    // overlaps nothing.
+    let answer =
+        unsafe { gemcotton_unpack(out.as_mut_ptr(), out.len(), strip.as_ptr(), strip.len()) };
+    answer.value(&UNPACK)
+}
+
+/// Gives the first position, from 1 on, whose time is less than `r` milliseconds after the one
+/// before, or none. So it answers on strips that no list packs to as well.
+///
+/// Refused as in [opening](crate#opening), then in
+/// [reading all positions](crate#reading-all-positions) up to the one given: a position's
+/// refusals come before its gap, and those of later positions are not looked for.
+#[inline]
+pub fn repeat(strip: &[u8], r: u32) -> Result<Option<usize>, Refusal> {
+    // SAFETY: the pointer and length are a slice's, so not null.
+    let answer = unsafe { gemcotton_repeat(strip.as_ptr(), strip.len(), r) };
+    let position = answer.value(&REPEAT)?;
+    // Position 0 has none before it, so 0 is the C interface's none.
+    Ok((position > 0).then_some(position))
+}
+
 #[cfg(test)]
 mod tests {
     use super::*;
     use std::panic::catch_unwind;
 
-    const NUMBERS: [usize; 12] = [1, 2, 3, 4, 5, 6, 7, 8, 9, 10, 13, 14];
-    const CARRYING: [usize; 5] = [3, 4, 8, 9, 10];
+    const NUMBERS: [usize; 14] = [1, 2, 3, 4, 5, 6, 7, 8, 9, 10, 11, 12, 13, 14];
+    const CARRYING: [usize; 6] = [3, 4, 8, 9, 10, 11];
 
     #[test]
     fn refusals_keep_their_number_and_what_they_carry() {
@@ -336,7 +425,7 @@ mod tests {
 
     #[test]
     fn answers_that_the_header_does_not_allow_panic() {
-        for call in [&PACK[..], &ACCESS, &SEARCH] {
+        for call in [&PACK[..], &ACCESS, &SEARCH, &CHECK, &UNPACK, &REPEAT] {
             for refusal in 0..=20 {
                 for (value, nodes) in [(0, 0), (7, 0), (0, 1), (7, 3)] {
                     let answer = Answer {
@@ -350,6 +439,12 @@ mod tests {
                         _ => None,
                     };
                     let found = catch_unwind(|| answer.outcome(call)).ok();
+                    assert_eq!(found, expected, "{answer:?}");
+                    // Calls that count no nodes take the same answers without any.
+                    let expected = expected
+                        .filter(|_| nodes == 0)
+                        .map(|found| found.map(|(value, _)| value));
+                    let found = catch_unwind(|| answer.value(call)).ok();
                     assert_eq!(found, expected, "{answer:?}");
                 }
             }

@@ -18,6 +18,8 @@ use gemcotton_tests::{proved, reference, straightforward};
 
 const COUNT: usize = 32_768;
 const ROUNDS: usize = 1001;
+/// The rounds of calls that read all positions, which take long.
+const FEW_ROUNDS: usize = 51;
 /// How often one function is run alone.
 const ALONE: usize = 10;
 
@@ -28,16 +30,27 @@ enum Which {
 }
 
 /// Prints the ratio under its label, or runs one side where that one alone is asked for.
-fn report(alone: &Option<(Which, String)>, name: &str, label: &str, mut work: impl FnMut(Which)) {
+fn report(alone: &Option<(Which, String)>, name: &str, label: &str, work: impl FnMut(Which)) {
+    report_rounds(alone, ROUNDS, name, label, work);
+}
+
+/// As `report`, with the ratio of so many rounds.
+fn report_rounds(
+    alone: &Option<(Which, String)>,
+    rounds: usize,
+    name: &str,
+    label: &str,
+    mut work: impl FnMut(Which),
+) {
     match alone {
-        None => println!("{label}: {:.2}", ratio(work)),
+        None => println!("{label}: {:.2}", ratio(rounds, work)),
         Some((which, asked)) if asked == name => (0..ALONE).for_each(|_| work(*which)),
         Some(_) => {}
     }
 }
 
 /// The median of proved / straightforward. Which goes first changes from round to round.
-fn ratio(mut work: impl FnMut(Which)) -> f64 {
+fn ratio(rounds: usize, mut work: impl FnMut(Which)) -> f64 {
     let mut seconds = |which| {
         let start = Instant::now();
         work(which);
@@ -46,7 +59,7 @@ fn ratio(mut work: impl FnMut(Which)) -> f64 {
     // The first calls warm the caches.
     seconds(Which::Proved);
     seconds(Which::Straightforward);
-    let mut ratios: Vec<f64> = (0..ROUNDS)
+    let mut ratios: Vec<f64> = (0..rounds)
         .map(|round| {
             if round % 2 == 0 {
                 let time = seconds(Which::Proved);
@@ -58,7 +71,7 @@ fn ratio(mut work: impl FnMut(Which)) -> f64 {
         })
         .collect();
     ratios.sort_by(f64::total_cmp);
-    ratios[ROUNDS / 2]
+    ratios[rounds / 2]
 }
 
 /// A level with the code chosen for it, and its part.
@@ -289,6 +302,25 @@ fn packs<'a>(times: &'a [u32], strip: &[u8]) -> impl FnMut(Which) + 'a {
     }
 }
 
+/// Both write the same buffer, which is not cleared between calls.
+fn unpacks<'a>(strip: &'a [u8], times: &[u32]) -> impl FnMut(Which) + 'a {
+    let mut buffer = vec![0; times.len()];
+    for unpack in [proved::strip::unpack, straightforward::strip::unpack] {
+        buffer.fill(0);
+        assert_eq!(unpack(strip, &mut buffer), Ok(times.len()));
+        assert!(buffer == times);
+    }
+    move |which| {
+        let strip = black_box(strip);
+        let out = black_box(&mut buffer[..]);
+        black_box(match which {
+            Which::Proved => proved::strip::unpack(strip, out),
+            Which::Straightforward => straightforward::strip::unpack(strip, out),
+        })
+        .expect("a list's strip and room");
+    }
+}
+
 /// Lines for the strip.
 fn report_strips(alone: &Option<(Which, String)>, tune: &Tune) {
     let strip = reference::strip::pack(&tune.times, usize::MAX).expect("a list");
@@ -304,6 +336,20 @@ fn report_strips(alone: &Option<(Which, String)>, tune: &Tune) {
     let baseline = |t| straightforward::strip::search(&strip, t);
     let work = each(&tune.targets, proved, baseline);
     report(alone, "strip-search", &label, work);
+
+    let label = format!("check, {PINS} pins");
+    let strips = [&strip[..]];
+    let work = each(&strips, proved::strip::check, straightforward::strip::check);
+    report_rounds(alone, FEW_ROUNDS, "check", &label, work);
+    let label = format!("unpack, {PINS} pins (buffer not cleared)");
+    let work = unpacks(&strip, &tune.times);
+    report_rounds(alone, FEW_ROUNDS, "unpack", &label, work);
+    // There are none, so that all positions are read.
+    let label = format!("repeat for gaps below 0, {PINS} pins");
+    let proved = |r| proved::strip::repeat(&strip, r);
+    let baseline = |r| straightforward::strip::repeat(&strip, r);
+    let work = each(&[0], proved, baseline);
+    report_rounds(alone, FEW_ROUNDS, "repeat", &label, work);
 }
 
 fn main() {
@@ -316,6 +362,7 @@ fn main() {
     };
     if alone.is_none() {
         println!("time of proved / straightforward, median of {ROUNDS} rounds");
+        println!("({FEW_ROUNDS} rounds for check, unpack and repeat)");
     }
     let mut random = Random(1);
     report_levels(&alone, &mut random);

@@ -31,3 +31,18 @@ pub fn up_to(strip: &[u8], t: u32) -> Result<(usize, usize), Refusal> {
     let found = gemcotton::up_to(strip, t).map_err(refusal)?;
     Ok((found.strikes, found.nodes))
 }
+
+#[inline]
+pub fn check(strip: &[u8]) -> Result<usize, Refusal> {
+    gemcotton::check(strip).map_err(refusal)
+}
+
+#[inline]
+pub fn unpack(strip: &[u8], out: &mut [u32]) -> Result<usize, Refusal> {
+    gemcotton::unpack(out, strip).map_err(refusal)
+}
+
+#[inline]
+pub fn repeat(strip: &[u8], r: u32) -> Result<Option<usize>, Refusal> {
+    gemcotton::repeat(strip, r).map_err(refusal)
+}

@@ -14,7 +14,8 @@ pub struct Refusal {
     pub carried: usize,
 }
 
-fn refuse<T>(number: usize, carried: usize) -> Result<T, Refusal> {
+/// The result of a call that is refused so.
+pub fn refused<T>(number: usize, carried: usize) -> Result<T, Refusal> {
     Err(Refusal { number, carried })
 }
 
@@ -66,16 +67,16 @@ pub fn pack(times: &[u32], room: usize) -> Result<Vec<u8>, Refusal> {
     let n = times.len();
     // 1: "n is 0".
     if n == 0 {
-        return refuse(1, 0);
+        return refused(1, 0);
     }
     // 2: "n over 65,535".
     if n > PINS {
-        return refuse(2, 0);
+        return refused(2, 0);
     }
     // 3: "list falls", with the "first lower position".
     for i in 1..n {
         if times[i] < times[i - 1] {
-            return refuse(3, i);
+            return refused(3, i);
         }
     }
     // "Pack chooses the code with fewest bits before padding."
@@ -83,7 +84,7 @@ pub fn pack(times: &[u32], room: usize) -> Result<Vec<u8>, Refusal> {
     let image = image(n, &levels);
     // 4: "output shorter than needed", with the "bytes (pack) [...] needed".
     if room < image.len() {
-        return refuse(4, image.len());
+        return refused(4, image.len());
     }
     Ok(image)
 }
@@ -93,38 +94,38 @@ pub fn pack(times: &[u32], room: usize) -> Result<Vec<u8>, Refusal> {
 fn open(strip: &[u8]) -> Result<Levels, Refusal> {
     // 5: "strip cut short".
     if strip.len() < 7 {
-        return refuse(5, 0);
+        return refused(5, 0);
     }
     // 6: "mark other than `PIN`".
     if strip[0..3] != [0x50, 0x49, 0x4E] {
-        return refuse(6, 0);
+        return refused(6, 0);
     }
     // 7: "version other than 1".
     if number(&strip[3..5]) != 1 {
-        return refuse(7, 0);
+        return refused(7, 0);
     }
     // 1: "n is 0".
     let n = number(&strip[5..7]);
     if n == 0 {
-        return refuse(1, 0);
+        return refused(1, 0);
     }
     let h = height(n);
     if strip.len() < 7 + 5 * h {
-        return refuse(5, 0);
+        return refused(5, 0);
     }
     // Level L's five bytes begin here.
     let entry = |level: usize| 7 + 5 * (level - 1);
     // 8: "level code", with the level.
     for level in 1..=h {
         if kind(strip[entry(level)]) == Kind::Refused {
-            return refuse(8, level);
+            return refused(8, level);
         }
     }
     // 13: "length not 7 + 5h + parts". The sum is wide, so that no lengths make it overflow.
     let length = |level: usize| number(&strip[entry(level) + 1..entry(level) + 5]);
     let parts: u128 = (1..=h).map(|level| length(level) as u128).sum();
     if strip.len() as u128 != (7 + 5 * h) as u128 + parts {
-        return refuse(13, 0);
+        return refused(13, 0);
     }
     let mut levels = Levels {
         pins: n,
@@ -144,7 +145,7 @@ pub fn access(strip: &[u8], i: usize) -> Result<(u32, usize), Refusal> {
     let levels = open(strip)?;
     // 14: "position >= n".
     if i >= levels.pins {
-        return refuse(14, 0);
+        return refused(14, 0);
     }
     Ok(tree::access(strip, &levels, i)?)
 }
@@ -163,4 +164,61 @@ pub fn up_to(strip: &[u8], t: u32) -> Result<(usize, usize), Refusal> {
         return Ok((levels.pins, 0));
     }
     search(strip, t + 1)
+}
+
+/// The time that follows these, which are the strip's first ones. Check, unpack and repeat find
+/// "for i from 0, access's refusal, then 11".
+fn next(strip: &[u8], times: &[u32]) -> Result<u32, Refusal> {
+    let i = times.len();
+    let (time, _) = access(strip, i)?;
+    // 11: "times fall", with the "lower position".
+    if times.last().is_some_and(|&before| time < before) {
+        return refused(11, i);
+    }
+    Ok(time)
+}
+
+/// The list of a strip that check does not refuse: "for i from 0, access's refusal, then 11;
+/// after all, 12."
+fn list(strip: &[u8]) -> Result<Vec<u32>, Refusal> {
+    let n = open(strip)?.pins;
+    let mut times = Vec::new();
+    for _ in 0..n {
+        times.push(next(strip, &times)?);
+    }
+    // 12: "bytes other than the list's image".
+    let image = pack(&times, usize::MAX).expect("a list");
+    if strip != image {
+        return refused(12, 0);
+    }
+    Ok(times)
+}
+
+/// "Check: [...] Gives n."
+pub fn check(strip: &[u8]) -> Result<usize, Refusal> {
+    Ok(list(strip)?.len())
+}
+
+/// "Unpack: check, then 4. Writes the first n entries". These, where the output has this room.
+pub fn unpack(strip: &[u8], room: usize) -> Result<Vec<u32>, Refusal> {
+    let times = list(strip)?;
+    // 4: "output shorter than needed", with the "[...] entries (unpack) needed".
+    if room < times.len() {
+        return refused(4, times.len());
+    }
+    Ok(times)
+}
+
+/// "Repeat r: the first i >= 1 with time i minus time i-1 below r, or none. For each i from 0
+/// it gives access's refusal, then 11, then tests r."
+pub fn repeat(strip: &[u8], r: u32) -> Result<Option<usize>, Refusal> {
+    let n = open(strip)?.pins;
+    let mut times = Vec::new();
+    for i in 0..n {
+        times.push(next(strip, &times)?);
+        if i >= 1 && times[i] - times[i - 1] < r {
+            return Ok(Some(i));
+        }
+    }
+    Ok(None)
 }

@@ -32,13 +32,13 @@ pub fn root_place(n: usize) -> usize {
 }
 
 /// "Node v has children 2v and 2v+1": whether v is its parent's left one.
-fn is_left(v: usize) -> bool {
+pub fn is_left(v: usize) -> bool {
     v == 2 * (v / 2)
 }
 
 /// Where the list of node v's subtree lies in the whole list: its first position and its
 /// length. "What precedes it is the left subtree's list, what follows the right one's."
-fn stretch(n: usize, v: usize) -> (usize, usize) {
+pub fn stretch(n: usize, v: usize) -> (usize, usize) {
     if v == 1 {
         return (0, n);
     }
@@ -124,6 +124,12 @@ pub fn nodes_of_level(n: usize, level: usize) -> RangeInclusive<usize> {
     1 << (level - 1)..=n.min((1 << level) - 1)
 }
 
+/// What the level's nodes store, out of what all nodes store.
+pub fn values_of_level(values: &[u32], level: usize) -> &[u32] {
+    let nodes = nodes_of_level(values.len(), level);
+    &values[nodes.start() - 1..*nodes.end()]
+}
+
 /// Each level's code and part, for nodes that store these values, whether or not a list
 /// makes them. `code_for` is given a level and its values and names a code that holds them.
 pub fn parts_of_values(
@@ -131,8 +137,7 @@ pub fn parts_of_values(
     mut code_for: impl FnMut(usize, &[u32]) -> u8,
 ) -> Vec<(u8, Vec<u8>)> {
     let part = |level| {
-        let nodes = nodes_of_level(values.len(), level);
-        let values = &values[nodes.start() - 1..*nodes.end()];
+        let values = values_of_level(values, level);
         let code = code_for(level, values);
         let part = encode(values, code).expect("the code holds the values");
         (code, part)

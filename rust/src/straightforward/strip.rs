@@ -130,3 +130,64 @@ pub fn up_to(strip: &[u8], t: u32) -> Result<(usize, usize), Refusal> {
         None => Ok((levels.pins, 0)),
     }
 }
+
+/// The times in order, up to the first that is refused or lower than the one before.
+fn times<'a>(
+    strip: &'a [u8],
+    levels: &'a Levels,
+) -> impl Iterator<Item = Result<u32, Refusal>> + 'a {
+    let mut before = 0;
+    tree::times(strip, levels)
+        .enumerate()
+        .map(move |(i, time)| {
+            let time = time?;
+            if time < before {
+                return Err(refusal(11, i));
+            }
+            before = time;
+            Ok(time)
+        })
+}
+
+/// The list that packs to the strip.
+fn list(strip: &[u8]) -> Result<Vec<u32>, Refusal> {
+    let levels = open(strip)?;
+    let times: Vec<u32> = times(strip, &levels).collect::<Result<_, _>>()?;
+    let mut image = vec![0; strip.len()];
+    if pack(&times, &mut image) != Ok(strip.len()) || image != strip {
+        return Err(refusal(12, 0));
+    }
+    Ok(times)
+}
+
+/// The pin count of a strip that some list packs to.
+#[inline(never)]
+pub fn check(strip: &[u8]) -> Result<usize, Refusal> {
+    Ok(list(strip)?.len())
+}
+
+/// Writes the list that packs to the strip at the front of `out` and gives the pin count.
+#[inline(never)]
+pub fn unpack(strip: &[u8], out: &mut [u32]) -> Result<usize, Refusal> {
+    let times = list(strip)?;
+    let Some(front) = out.get_mut(..times.len()) else {
+        return Err(refusal(4, times.len()));
+    };
+    front.copy_from_slice(&times);
+    Ok(times.len())
+}
+
+/// The first position with a time less than r after the one before, or none.
+#[inline(never)]
+pub fn repeat(strip: &[u8], r: u32) -> Result<Option<usize>, Refusal> {
+    let levels = open(strip)?;
+    let mut before = None;
+    for (i, time) in times(strip, &levels).enumerate() {
+        let time = time?;
+        if before.is_some_and(|before| time - before < r) {
+            return Ok(Some(i));
+        }
+        before = Some(time);
+    }
+    Ok(None)
+}

@@ -3,6 +3,8 @@
 //!
 //! The public functions are never inlined, since calls into the proved library are not.
 
+use std::iter;
+
 use super::fetch;
 use crate::reference::tree::{Levels, Refusal};
 
@@ -133,4 +135,28 @@ pub fn search(s: &[u8], levels: &Levels, t: u32) -> Result<(usize, usize), Refus
         }
     }
     Ok((position, nodes))
+}
+
+/// The times in order of positions, each node opened once. The first that is refused comes
+/// where an access there would be refused by it.
+pub fn times<'a>(
+    s: &'a [u8],
+    levels: &'a Levels,
+) -> impl Iterator<Item = Result<u32, Refusal>> + 'a {
+    let (mut v, mut parent) = (1, 0);
+    // The nodes left by their left side, with their times.
+    let mut above = Vec::new();
+    iter::from_fn(move || {
+        while v <= levels.pins {
+            match open(s, levels, v, parent) {
+                Ok(time) => parent = time,
+                Err(refusal) => return Some(Err(refusal)),
+            }
+            above.push((v, parent));
+            v *= 2;
+        }
+        let (node, time) = above.pop()?;
+        (v, parent) = (2 * node + 1, time);
+        Some(Ok(time))
+    })
 }

@@ -1,0 +1,225 @@
+//! Strips for the tests, whole and damaged.
+
+use std::ops::Range;
+
+use crate::lists::{lists, rising};
+use crate::parts::{any_code, chosen};
+use crate::random::Random;
+use crate::reference::strip::{image, PINS};
+use crate::reference::tree::{height, parts_of_values, stored};
+
+// ---- Marked strips ----
+
+/// List A and its strip.
+pub const TIMES_A: [u32; 5] = [100, 250, 250, 400, 1000];
+pub const A: [u8; 29] = [
+    0x50, 0x49, 0x4E, 0x00, 0x01, 0x00, 0x05, // PIN, version, pins
+    0x09, 0x00, 0x00, 0x00, 0x02, // level 1
+    0x0A, 0x00, 0x00, 0x00, 0x03, // level 2
+    0x42, 0x00, 0x00, 0x00, 0x02, // level 3
+    0xC8, 0x00, 0x25, 0xA5, 0x80, 0xA2, 0xD4, // parts
+];
+
+/// The strip of the list 0.
+pub const B: [u8; 12] = [0x50, 0x49, 0x4E, 0, 1, 0, 1, 0, 0, 0, 0, 0];
+
+/// B with one byte changed.
+pub fn changed_b(place: usize, byte: u8) -> [u8; 12] {
+    let mut strip = B;
+    strip[place] = byte;
+    strip
+}
+
+/// What is done to a strip, and the refusal that it leads to.
+type Fault = (fn(&mut Vec<u8>), usize, usize);
+
+/// Faults of A, those that are tested for later first.
+const FAULTS: [Fault; 9] = [
+    (|strip| strip.push(0), 13, 0),
+    (|strip| strip[8..12].fill(0xFF), 13, 0),
+    (|strip| strip[17] = 73, 8, 3),
+    (|strip| strip[7] = 33, 8, 1),
+    (|strip| strip.truncate(21), 5, 0),
+    (|strip| strip[5..7].fill(0), 1, 0),
+    (|strip| strip[4] = 2, 7, 0),
+    (|strip| strip[2] = 0x4F, 6, 0),
+    (|strip| strip.truncate(6), 5, 0),
+];
+
+/// A with every set of those faults, and the number and what is carried of the refusal that
+/// comes first.
+pub fn faulty() -> impl Iterator<Item = (Vec<u8>, (usize, usize))> {
+    (1..1 << FAULTS.len()).map(|set| {
+        let mut strip = A.to_vec();
+        let mut first = (0, 0);
+        for (place, (fault, number, carried)) in FAULTS.into_iter().enumerate() {
+            if set >> place & 1 == 1 {
+                fault(&mut strip);
+                first = (number, carried);
+            }
+        }
+        (strip, first)
+    })
+}
+
+// ---- Whole strips ----
+
+/// A level's code and part.
+pub type Level = (u8, Vec<u8>);
+
+/// The levels of lists of all sorts, in the chosen codes and in others.
+pub fn many_levels(n: usize, random: &mut Random) -> Vec<Vec<Level>> {
+    let mut many = Vec::new();
+    for times in lists(n, random) {
+        let values = stored(&times);
+        many.push(parts_of_values(&values, chosen));
+        many.push(parts_of_values(&values, any_code(random)));
+    }
+    many
+}
+
+/// Strips of a few dozen bytes in codes of all sorts.
+pub fn small_strips(random: &mut Random) -> Vec<Vec<u8>> {
+    let mut strips = vec![A.to_vec(), B.to_vec()];
+    for n in [2, 3, 4, 7, 8, 12] {
+        let low = rising(n, || random.of_width(4));
+        let high: Vec<u32> = low.iter().rev().map(|&time| !time).collect();
+        let chunked = parts_of_values(&stored(&low), |level, _| 65 + (n + level) as u8 % 8);
+        strips.push(image(n, &chunked));
+        strips.push(image(n, &parts_of_values(&stored(&high), chosen)));
+    }
+    strips
+}
+
+// ---- Damage ----
+
+/// The pin count that the bytes tell, or 0 where they are cut before it.
+pub fn pins(strip: &[u8]) -> usize {
+    match strip {
+        [_, _, _, _, _, high, low, ..] => 256 * usize::from(*high) + usize::from(*low),
+        _ => 0,
+    }
+}
+
+/// The bytes with others on both sides, and where they lie among these.
+pub fn surrounded(strip: &[u8], random: &mut Random) -> (Vec<u8>, Range<usize>) {
+    let before = random.below(8);
+    let memory = [&random.bytes(before), strip, &random.bytes(8)].concat();
+    (memory, before..before + strip.len())
+}
+
+/// Puts another length into a level's entry.
+fn set_length(strip: &mut [u8], level: usize, length: u32) {
+    let place = 7 + 5 * (level - 1) + 1;
+    strip[place..place + 4].copy_from_slice(&length.to_be_bytes());
+}
+
+/// Strips of a list with more than one pin, where the sum of the lengths would be right if it
+/// were kept in 32 bits.
+pub fn wrapping_lengths(times: &[u32], random: &mut Random) -> Vec<Vec<u8>> {
+    let (n, h) = (times.len(), height(times.len()));
+    let strip = image(n, &parts_of_values(&stored(times), chosen));
+    let parts = (strip.len() - 7 - 5 * h) as u32;
+    let mut strips = Vec::new();
+    for round in 0..40 {
+        let mut strip = strip.clone();
+        // Random lengths, or some just below 2^32, a half or a quarter of it. In 32 bits
+        // the last makes the sum right.
+        let mut sum = 0u32;
+        for level in 1..h {
+            let near = [0, 1 << 30, 1 << 31][random.below(3)];
+            let length = match round % 2 {
+                0 => random.of_width(32),
+                _ => u32::wrapping_sub(near, 1 + random.of_width(3)),
+            };
+            set_length(&mut strip, level, length);
+            sum = sum.wrapping_add(length);
+        }
+        set_length(&mut strip, h, parts.wrapping_sub(sum));
+        strips.push(strip);
+    }
+    let mut greatest = strip.clone();
+    (1..=h).for_each(|level| set_length(&mut greatest, level, u32::MAX));
+    strips.push(greatest);
+    // As if level 1 had -1 bytes.
+    let mut less = strip;
+    (1..=h).for_each(|level| set_length(&mut less, level, 0));
+    set_length(&mut less, 1, u32::MAX);
+    set_length(&mut less, 2, parts + 1);
+    strips.push(less);
+    strips
+}
+
+/// Changes up to three bytes from this place on.
+pub fn change_bytes(strip: &mut [u8], from: usize, random: &mut Random) {
+    for _ in 0..=random.below(3) {
+        let place = from + random.below(strip.len() - from);
+        strip[place] = random.draw() as u8;
+    }
+}
+
+/// Fills the part of one level, or as often all parts, with random bytes of this density. They
+/// get somewhat shorter or longer.
+pub fn fill_parts(levels: &mut [Level], ones: usize, random: &mut Random) {
+    let one = random.below(2 * levels.len());
+    let all = one >= levels.len();
+    for (level, (_, part)) in levels.iter_mut().enumerate() {
+        if all || level == one {
+            let length = (part.len() + random.below(6)).saturating_sub(2);
+            *part = random.dense_bytes(length, ones);
+        }
+    }
+}
+
+/// Gives a level of a long list another code or a shorter part, or changes bytes of it and of
+/// those below it, round by round.
+pub fn damage_level(levels: &mut [Level], round: usize, random: &mut Random) {
+    let level = random.below(levels.len());
+    let (code, part) = &mut levels[level];
+    match round % 3 {
+        0 => *code = 65 + random.draw() as u8 % 8,
+        1 => part.truncate(random.below(part.len() + 1)),
+        _ => {
+            for (_, part) in &mut levels[level..] {
+                for _ in 0..=part.len() / 300 {
+                    let place = random.below(part.len());
+                    part[place] = random.draw() as u8;
+                }
+            }
+        }
+    }
+}
+
+/// A strip with random codes and short random parts, and often one more fault. Half of the pin
+/// counts are small, and a quarter are of these.
+pub fn random_strip(counts: &[usize], random: &mut Random) -> Vec<u8> {
+    let n = match random.below(4) {
+        0 => random.below(PINS + 1),
+        1 => counts[random.below(counts.len())],
+        _ => random.below(20),
+    };
+    let mut level = |_| {
+        let any = random.draw() as u8;
+        let code = match random.below(60) {
+            0 => any,
+            1..=30 => any % 33,
+            _ => 65 + any % 8,
+        };
+        let length = random.below(9);
+        (code, random.bytes(length))
+    };
+    let levels: Vec<Level> = (0..height(n)).map(&mut level).collect();
+    let mut strip = image(n, &levels);
+    let (length, h) = (strip.len(), levels.len());
+    match random.below(12) {
+        0 => strip[random.below(3)] = random.draw() as u8,
+        1 => strip[3 + random.below(2)] = random.draw() as u8,
+        2 => strip[5 + random.below(2)] = random.draw() as u8,
+        3 => strip.truncate(random.below(length)),
+        4 => strip.push(0),
+        5 if h > 0 => set_length(&mut strip, 1 + random.below(h), random.skewed()),
+        6 => strip.splice(5.., random.bytes(length)).for_each(drop),
+        _ => {}
+    }
+    strip
+}
