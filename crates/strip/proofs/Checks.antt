@@ -11,7 +11,6 @@ use borrow.Author.Tests.{lt-ltb, le-ltb}
 use Rattle.codes.specs.Lists.{same}
 use Rattle.codes.specs.Codes.{Within}
 use Rattle.tree.specs.declared.nodes.Levels.{Levels}
-use Rattle.tree.specs.Shape.{height}
 use Rattle.tree.specs.Stored.{storedValues}
 use Rattle.tree.specs.Levels.{Fits}
 use Rattle.tree.specs.Lists.{ordered}
@@ -123,24 +122,24 @@ module _ (s : List ℕ) (levels : Levels) where
 
 -- ---- the image
 
-module _ (xs : List ℕ) (few : length xs < 2 ^ 16) (within : Within 32 xs) where
-  -- there is room for it in the largest strip
-  image-fits : length (image xs) ≤ maxBytes
+-- there is room for it in the largest strip, and so in what has as much room
+module _ (xs : List ℕ) (few : length xs < 2 ^ 16) (within : Within 32 xs) (room : ℕ) (enough : room ≡ maxBytes) where
+  image-fits : length (image xs) ≤ room
   image-fits =
       omega (arith, height-least .least (length xs) 16 (omega arith), rw (stored-levels .count xs) at (strip-small (storedValues xs) (stored-levels .within 32 xs within)))
 
-  packs-whole : packedInto maxBytes (image xs) ≡ gives (length (image xs))
+  packs-whole : packedInto room (image xs) ≡ gives (length (image xs))
   unfolding verdict
-  packs-whole = rw (le-ltb maxBytes (length (image xs)) image-fits)
+  packs-whole = rw (le-ltb room (length (image xs)) image-fits)
 
-  pub image-packs : (r q : ℕ) → refuses r q ≡ packedInto maxBytes (image xs) → ⊥
+  pub image-packs : (r q : ℕ) → refuses r q ≡ packedInto room (image xs) → ⊥
   image-packs r q e = gives-refuses (sym (e ∙ packs-whole))
 
-  -- it stands at the front of the buffer that was lent
-  pub image-length : (n : ℕ) → gives n ≡ packedInto maxBytes (image xs) → n ≡ length (image xs)
+  pub image-length : (n : ℕ) → gives n ≡ packedInto room (image xs) → n ≡ length (image xs)
   image-length n e = gives-same (e ∙ packs-whole)
 
-  pub image-front : (n : ℕ) (out now : List ℕ) → gives n ≡ packedInto maxBytes (image xs) → now ≡ written (packedInto maxBytes (image xs)) (image xs) out
+  -- it stands at the front of the buffer that was lent
+  pub image-front : (n : ℕ) (out now : List ℕ) → gives n ≡ packedInto room (image xs) → now ≡ written (packedInto room (image xs)) (image xs) out
       → (n ≤ length now) × (take n now ≡ image xs)
   image-front n out now e w =
       let l = image-length n e in

@@ -1,26 +1,24 @@
 -- The demands of specs/Demands.
 use mathlib.Core.Path.{_≡_, refl, sym, ap, subst, _∙_}
 use mathlib.Core.Logic.{_↔_}
-use mathlib.Core.Bool.{Bool, true, false, not}
-use mathlib.Core.List.{List, [], _∷_, _++_, append-nil}
-use Prim.Native.Nat.{ℕ, _+_, _*_, _/_, _%_, _≤_, _<_}
+use mathlib.Core.Bool.{true, not}
+use mathlib.Core.List.{List, _++_, append-nil}
+use Prim.Native.Nat.{ℕ, _+_, _*_, _/_, _%_, _≤_}
 use native.Mathlib.Nat.{le-refl}
 use native.Mathlib.Omega.{arith}
-use lib.Dec.{T, eqb, ltb}
-use lib.ListN.{length, drop, length-append, length-drop}
+use lib.Dec.{eqb, ltb}
+use lib.ListN.{length, drop}
 use lib.Seq.{drop-length}
 use borrow.Author.Tests.{eqb-false, ltb-false, not-false, le-ltb}
-use Rattle.codes.specs.Lists.{same}
 use Rattle.codes.specs.Codes.{Within}
 use Rattle.tree.specs.declared.nodes.Levels.{Levels}
 use Rattle.tree.specs.Lists.{ordered, smaller}
 use Rattle.tree.specs.Stored.{storedValues}
 use Rattle.tree.specs.Walks.{found, path}
-use Rattle.tree.specs.Listing.{nowhere, accesses, stopFrom}
+use Rattle.tree.specs.Listing.{nowhere}
 use Rattle.tree.proofs.Promises.{stored-levels, lists}
 use Rattle.strip.specs.declared.strip.Checked.{Checked}
 use Rattle.strip.specs.declared.strip.Checked.the-variants.{Pins, Refused}
-use Rattle.strip.specs.Lists.{firstLower}
 use Rattle.strip.specs.Outcomes.{Outcome, gives, refuses, verdict, after}
 use Rattle.strip.specs.Layout.{maxPins, pinsOf, laidOut}
 use Rattle.strip.specs.Image.{stripOf, image}
@@ -28,8 +26,8 @@ use Rattle.strip.specs.Opening.{levelsIn, opening}
 use Rattle.strip.specs.Calls.{packAnswer, written, packOutput, searchOf, listIn, checkIn, checkOf, checked, plainList, unpackOf, unpackOutput}
 use Rattle.strip.specs.Promises.{Packable, Opens}
 use Rattle.strip.specs.Demands.{PacksTo, UnpacksTo, Accepted, CheckAccepts, CodeAccepts, Demand2}
-use Rattle.strip.proofs.Same.{same-lists, same-itself}
-use Rattle.strip.proofs.Verdicts.{gives-same, gives-refuses, verdict-gives, verdict-passed}
+use Rattle.strip.proofs.Same.{is-true, same-lists, same-itself}
+use Rattle.strip.proofs.Verdicts.{gives-refuses, verdict-gives, verdict-passed}
 use Rattle.strip.proofs.Readings.{check-all}
 use Rattle.strip.proofs.Checks.{list-count, accepts}
 use Rattle.strip.proofs.Promises.{packs-once, image-opens, round-trip}
@@ -59,12 +57,8 @@ module _ (xs : List ℕ) (p : Packable xs) where
   unfolding checkOf verdict
   check-back =
       let stop = lists .stop levels (image xs) xs (opens .held) in
-      let o : ordered xs ≡ true = T-true (ordered xs) (p .in-order) in
+      let o : ordered xs ≡ true = is-true (ordered xs) (p .in-order) in
       rw (opens .opened) (check-all (image xs) levels stop ∙ rw (list-back, o, same-itself (image xs)) (ap gives (opens .held .stores .pins-are)))
-    where
-      T-true : (b : Bool) → T b → b ≡ true
-      T-true true h = refl
-      T-true false h = absurd h
 
   unpacks-back : UnpacksTo (image xs) xs
   unfolding unpackOf unpackOutput verdict

@@ -1,11 +1,9 @@
 -- The promises of specs/Promises.
 use mathlib.Core.Path.{_≡_, refl, sym, ap, _∙_}
-use mathlib.Core.Bool.{Bool, true, false}
 use mathlib.Core.List.{List}
 use Prim.Native.Nat.{ℕ, suc, _-_, _^_, _≤_, _<_}
 use native.Mathlib.Decide.{decLt}
 use native.Mathlib.Omega.{arith}
-use lib.Dec.{T}
 use lib.ListN.{length}
 use borrow.Author.Tests.{lt-ltb, le-ltb, eq-eqb, ne-eqb}
 use Rattle.codes.specs.Codes.{kindOf, part, Within, Holds}
@@ -25,16 +23,13 @@ use Rattle.strip.specs.Calls.{packAnswer, written, packOutput, accessOf,
 use Rattle.strip.specs.Promises.{Packable, PacksOnce, RoomEnough, Opens, ImageOpens, ReadsBack, RoundTrip}
 use Rattle.strip.proofs.Counts.{smaller-next, upTo-all}
 use Rattle.strip.proofs.Images.{strip-opens, part-back}
+use Rattle.strip.proofs.Same.{is-true}
 use Rattle.strip.proofs.Plans.{strip-small, plan-at, plan-pins, level-holds, values-within}
-
-T-true : (b : Bool) → T b → b ≡ true
-T-true true h = refl
-T-true false h = absurd h
 
 packs : (xs out : List ℕ) → Packable xs → length (image xs) ≤ length out → packAnswer xs (length out) ≡ gives (length (image xs))
 unfolding packAnswer verdict
 packs xs out p room =
-    rw (ne-eqb (length xs) 0 (λ e. omega (arith, p .some)), le-ltb maxPins (length xs) (p .few), T-true (ordered xs) (p .in-order), le-ltb (length out) (length (image xs)) room)
+    rw (ne-eqb (length xs) 0 (λ e. omega (arith, p .some)), le-ltb maxPins (length xs) (p .few), is-true (ordered xs) (p .in-order), le-ltb (length out) (length (image xs)) room)
 
 pub packs-once : PacksOnce
 unfolding packOutput

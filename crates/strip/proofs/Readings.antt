@@ -17,8 +17,8 @@ use Rattle.tree.specs.Walks.{Answer, found, stopped}
 use Rattle.tree.specs.Listing.{Stop, nowhere, at, accesses, timesFrom, stopFrom}
 use Rattle.strip.specs.Lists.{firstNear, firstLower}
 use Rattle.strip.specs.Outcomes.{Outcome, gives, refuses, Test, test, verdict, after}
-use Rattle.strip.specs.Calls.{timeOr0, refusalTest, fallsAt, positionTests, positionsTests, listIn, imageTest, checkIn, nearAt, repeatFrom}
-use Rattle.strip.specs.Read.{fallsTest, gapAt, gapOr}
+use Rattle.strip.specs.Calls.{timeOr0, refusalTest, fallsAt, positionsTests, listIn, imageTest, checkIn, nearAt, repeatFrom}
+use Rattle.strip.specs.Read.{fallsTest, gapOr}
 use Rattle.strip.proofs.Gaps.{near-here, near-later, near-one, near-some, ordered-lower}
 
 -- what ends a reading after its last position

@@ -21,7 +21,7 @@ ghost use Rattle.tree.specs.Times.{numberOf, nodeOf};
 ghost use Rattle.tree.specs.Buffers.{replaced};
 ghost use Rattle.strip.specs.Outcomes.{test, verdict};
 ghost use Rattle.strip.specs.Image.{image};
-ghost use Rattle.strip.specs.Calls.{roomTest, written, listIn, checkIn, checked};
+ghost use Rattle.strip.specs.Calls.{written, listIn, checkIn, checked};
 ghost use Rattle.strip.specs.Read.{fallsTest, unpackIn};
 
 // Whether two runs of bytes are the same.

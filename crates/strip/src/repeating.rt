@@ -7,7 +7,6 @@ use super::strip::Strip;
 use tree::Levels;
 use tree::Listed;
 ghost use mathlib.Core.Path.{_≡_};
-ghost use lib.ListN.{length};
 ghost use Rattle.tree.specs.Levels.{Fits};
 ghost use Rattle.tree.specs.Listing.{accesses};
 ghost use Rattle.strip.specs.Calls.{repeatFrom, repeated};

@@ -41,10 +41,7 @@ fn list_under(
     if pins == 0 {
         return Listed::All;
     }
-    let from = levels.ends[depth];
-    let to = levels.ends[depth + 1];
-    let code = levels.codes[depth];
-    let opened = open_node(&s[from..to], code, levels.pins, depth, v, above);
+    let opened = open_node(s, levels, depth, v, above);
     let mut time: u32 = 0;
     match opened {
         Opened::Time(t) => {

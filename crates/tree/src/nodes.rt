@@ -5,6 +5,7 @@ ghost use mathlib.Core.Path.{_≡_};
 ghost use Prim.Native.Nat.{_+_, _-_, _*_, _^_, _≤_, _<_, min};
 ghost use lib.ListN.{length};
 ghost use Rattle.codes.specs.Fetch.{value, fetched};
+ghost use Rattle.tree.specs.Levels.{Fits, fetchedAt};
 ghost use Rattle.tree.specs.Times.{at, under, timeOpened};
 
 // The pin count, each level's code byte and each level's end. Entry 0 of the ends is where the first level starts; so the part
@@ -55,14 +56,7 @@ fn time_under(v: usize, above: u32, d: u32) -> Opened
 }
 
 // Opens node v of n by a fetch from its level's part alone, in code `code`. It has `depth` levels and the time `above` above it.
-pub(crate) fn open_node(
-    part: &[u8],
-    code: u8,
-    n: usize,
-    depth: usize,
-    v: usize,
-    above: u32,
-) -> Opened
+fn open_part(part: &[u8], code: u8, n: usize, depth: usize, v: usize, above: u32) -> Opened
     requires { ⌜ (2 ^ depth ≤ v) × (v < 2 * 2 ^ depth) × (v ≤ n) × (n < 2 ^ 63) × (length (now part) < 2 ^ 32) ⌝ }
     ensures { λ r. ⌜ timeOpened r ≡ under v (at above) (fetched code (min (n + 1 - 2 ^ depth) (2 ^ depth)) (v - 2 ^ depth) (now (part .entry))) ⌝ }
 {
@@ -73,4 +67,16 @@ pub(crate) fn open_node(
         Found::Value(d) => time_under(v, above, d),
         Found::Outside => Opened::Refused(Refusal::Fetch(v)),
     }
+}
+
+// Opens node v, which has `depth` levels and the time `above` above it.
+pub(crate) fn open_node(s: &[u8], levels: Levels, depth: usize, v: usize, above: u32) -> Opened
+    requires { ⌜ Fits levels (now s) ⌝ }
+    requires { ⌜ (2 ^ depth ≤ v) × (v < 2 * 2 ^ depth) × (v ≤ levels .pins) ⌝ }
+    ensures { λ r. ⌜ timeOpened r ≡ under v (at above) (fetchedAt levels (now (s .entry)) v) ⌝ }
+{
+    let start = levels.ends[depth];
+    let end = levels.ends[depth + 1];
+    let code = levels.codes[depth];
+    open_part(&s[start..end], code, levels.pins, depth, v, above)
 }

@@ -3,7 +3,7 @@ use native.Mathlib.Omega.{arith}
 use mathlib.Core.Path.{sym, ap, _∙_}
 use Rattle.tree.specs.Listing.{listed}
 use Rattle.strip.specs.Calls.{listIn}
-use Rattle.strip.proofs.Checks.{pins-few, Front, list-count, list-front, checked-all, checked-stopped}
+use Rattle.strip.proofs.Checks.{pins-few, list-count, list-front, checked-all, checked-stopped}
 use borrow.Author.Needs.{needs}
 use Rattle.strip.proofs.checking.check_open.Statement.{statement}
 use Rattle.strip.proofs.checking.check_open.Tie as tie

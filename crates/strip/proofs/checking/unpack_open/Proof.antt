@@ -1,6 +1,6 @@
 -- `unpack_open` meets its contract.
 use native.Mathlib.Omega.{arith}
-use mathlib.Core.Path.{_≡_, refl, sym, ap, _∙_}
+use mathlib.Core.Path.{sym, ap, _∙_}
 use Rattle.strip.specs.Calls.{checked}
 use Rattle.strip.proofs.Checks.{pins-few, list-front, accepted-count, unpack-short, unpack-whole, unpack-refused}
 use borrow.Author.Needs.{needs}

@@ -1,6 +1,6 @@
 -- `repeat_open` meets its contract.
 use native.Mathlib.Omega.{arith}
-use mathlib.Core.Path.{_≡_, sym, ap, _∙_}
+use mathlib.Core.Path.{sym, ap, _∙_}
 use Rattle.tree.specs.Listing.{nowhere, listed}
 use Rattle.strip.specs.Calls.{listIn}
 use Rattle.strip.proofs.Checks.{pins-few, list-count, list-front, repeated-lists}

@@ -3,17 +3,17 @@ use native.Mathlib.Omega.{arith}
 use mathlib.Core.Path.{_≡_, refl, sym, ap, _∙_}
 use mathlib.Core.List.{List}
 use Prim.Native.Nat.{ℕ, _+_, _-_, _≤_, _<_}
-use lib.ListN.{length, set, length-take, length-set}
+use lib.ListN.{length, set, length-set}
 use Rattle.tree.specs.declared.shape.Stretch.{Stretch}
 use Rattle.tree.specs.declared.nodes.Levels.{Levels}
 use Rattle.tree.specs.Levels.{Fits, fetchedAt}
 use Rattle.tree.specs.Times.{at, nodeTime, timeOpened}
 use Rattle.tree.specs.Listing.{timesFrom, stopFrom, listed}
-use Rattle.tree.specs.Standing.{Stands, Reaches}
+use Rattle.tree.specs.Standing.{Stands}
 use Rattle.tree.proofs.Heights.{place-in}
 use Rattle.tree.proofs.NodeFetches.{Level}
 use Rattle.tree.proofs.Steps.{stands-node, stands-level, stands-open}
-use Rattle.tree.proofs.Buffers.{replaced-none, length-replaced}
+use Rattle.tree.proofs.Buffers.{replaced-none}
 use Rattle.tree.proofs.Listings.{listed-refused, stands-left, stands-right, listed-left, listed-right}
 use borrow.Author.Needs.{needs}
 use borrow.Fn.Kinds.{In, Out}
@@ -49,38 +49,10 @@ returns : (t : ℕ) → lts.Need-returns (calls t) (given t) reads.Post
 unfolding stopFrom timesFrom
 returns t c = rw (c .if1 .taken) (refl, sym (replaced-none (c .before .before .before .args .times .now) (c .before .before .before .args .start)))
 
-mul-from : (t : ℕ) → lts.Need-mul-from (calls t) (given t) reads.Post
-mul-from t c = omega (arith, level (c .before .before .before .pre .1 .0 .0) (c .before .before .before .pre .1 .1 .0) (omega arith))
-
-element-copy-out-from : (t : ℕ) → lts.Need-element-copy-out-from (calls t) (given t) reads.Post
-element-copy-out-from t c = omega (arith, level (c .before .before .before .pre .1 .0 .0) (c .before .before .before .pre .1 .1 .0) (omega arith))
-
-add-to : (t : ℕ) → lts.Need-add-to (calls t) (given t) reads.Post
-add-to t c = omega (arith, level (c .before .before .before .before .pre .1 .0 .0) (c .before .before .before .before .pre .1 .1 .0) (omega arith))
-
-mul-to : (t : ℕ) → lts.Need-mul-to (calls t) (given t) reads.Post
-mul-to t c = omega (arith, level (c .before .before .before .before .pre .1 .0 .0) (c .before .before .before .before .pre .1 .1 .0) (omega arith))
-
-element-copy-out-to : (t : ℕ) → lts.Need-element-copy-out-to (calls t) (given t) reads.Post
-element-copy-out-to t c = omega (arith, level (c .before .before .before .before .pre .1 .0 .0) (c .before .before .before .before .pre .1 .1 .0) (omega arith))
-
-element-copy-out-code : (t : ℕ) → lts.Need-element-copy-out-code (calls t) (given t) reads.Post
-element-copy-out-code t c = omega (arith, level (c .before .before .before .before .before .pre .1 .0 .0) (c .before .before .before .before .before .pre .1 .1 .0) (omega arith))
-
-sub-open-node : (t : ℕ) → lts.Need-sub-open-node (calls t) (given t) reads.Post
-sub-open-node t c = omega (arith, level (c .before .before .before .before .before .before .pre .1 .0 .0) (c .before .before .before .before .before .before .pre .1 .1 .0) (omega arith))
-
-part-open-node-start : (t : ℕ) → lts.Need-part-open-node-start (calls t) (given t) reads.Post
-part-open-node-start t c = omega (arith, level (c .before .before .before .before .before .before .pre .1 .0 .0) (c .before .before .before .before .before .before .pre .1 .1 .0) (omega arith))
-
-part-open-node-end : (t : ℕ) → lts.Need-part-open-node-end (calls t) (given t) reads.Post
-part-open-node-end t c = omega (arith, level (c .before .before .before .before .before .before .pre .1 .0 .0) (c .before .before .before .before .before .before .pre .1 .1 .0) (omega arith))
-
 open-node-requires : (t : ℕ) → lts.Need-open-node-requires (calls t) (given t) reads.Post
 open-node-requires t c κs =
-    let w = c .before .before .before .before .before .before .before .pre .1 .1 .0 in
-    let f = level (c .before .before .before .before .before .before .before .pre .1 .0 .0) (c .before .before .before .before .before .before .before .pre .1 .1 .0) (omega arith) in
-    (w .low, w .high, stands-node w (omega arith), omega arith, simp length-take (omega arith))
+    let w = c .before .before .before .pre .1 .1 .0 in
+    (c .before .before .before .pre .1 .0 .0, (w .low, w .high, stands-node w (omega arith)))
 
 enum-known-opened : (t : ℕ) → lts.Need-enum-known-opened (calls t) (given t) reads.Post
 enum-known-opened t c = search needs
@@ -90,29 +62,29 @@ enum-known-opened-2 t c = search needs
 
 returns-2 : (t : ℕ) → lts.Need-returns-2 (calls t) (given t) reads.Post
 returns-2 t c =
-    let w = c .before .before .before .before .before .before .before .before .before .before .before .pre .1 .1 .0 in
+    let w = c .before .before .before .before .before .before .before .pre .1 .1 .0 in
     let e = sym (stands-open w) ∙ sym (c .before .before .before .open-node .ensures) ∙ ap timeOpened (c .before .opened2 .given .1) in
-    let z = listed-refused w (c .before .before .before .before .before .before .before .before .before .before .before .pre .1 .1 .1) (omega arith) _ _ e in
-    (sym (z .0), sym (rw (z .1) (replaced-none (c .before .before .before .before .before .before .before .before .before .before .before .args .times .now) (c .before .before .before .before .before .before .before .before .before .before .before .args .start))))
+    let z = listed-refused w (c .before .before .before .before .before .before .before .pre .1 .1 .1) (omega arith) _ _ e in
+    (sym (z .0), sym (rw (z .1) (replaced-none (c .before .before .before .before .before .before .before .args .times .now) (c .before .before .before .before .before .before .before .args .start))))
 
 root-place-requires : (t : ℕ) → lts.Need-root-place-requires (calls t) (given t) reads.Post
 root-place-requires t c κs = tt
 
 sub-list-under : (t : ℕ) → lts.Need-sub-list-under (calls t) (given t) reads.Post
-sub-list-under t c = omega (arith, place-in (c .before .before .before .before .before .before .before .before .before .before .before .before .before .args .pins) (omega arith))
+sub-list-under t c = omega (arith, place-in (c .before .before .before .before .before .before .before .before .before .args .pins) (omega arith))
 
 mul-list-under : (t : ℕ) → lts.Need-mul-list-under (calls t) (given t) reads.Post
-mul-list-under t c = omega (arith, level (c .before .before .before .before .before .before .before .before .before .before .before .before .before .pre .1 .0 .0) (c .before .before .before .before .before .before .before .before .before .before .before .before .before .pre .1 .1 .0) (omega arith), stands-node (c .before .before .before .before .before .before .before .before .before .before .before .before .before .pre .1 .1 .0) (omega arith))
+mul-list-under t c = omega (arith, level (c .before .before .before .before .before .before .before .before .before .pre .1 .0 .0) (c .before .before .before .before .before .before .before .before .before .pre .1 .1 .0) (omega arith), stands-node (c .before .before .before .before .before .before .before .before .before .pre .1 .1 .0) (omega arith))
 
 add-list-under : (t : ℕ) → lts.Need-add-list-under (calls t) (given t) reads.Post
-add-list-under t c = omega (arith, level (c .before .before .before .before .before .before .before .before .before .before .before .before .before .pre .1 .0 .0) (c .before .before .before .before .before .before .before .before .before .before .before .before .before .pre .1 .1 .0) (omega arith))
+add-list-under t c = omega (arith, level (c .before .before .before .before .before .before .before .before .before .pre .1 .0 .0) (c .before .before .before .before .before .before .before .before .before .pre .1 .1 .0) (omega arith))
 
 list-under-requires : (t : ℕ) → lts.Need-list-under-requires (calls t) (given t) reads.Post
 list-under-requires t c κs =
-    let p = c .before .before .before .before .before .before .before .before .before .before .before .before .before .pre .1 in
-    let e : nodeTime (fetchedAt (c .before .before .before .before .before .before .before .before .before .before .before .before .before .args .t3) (c .before .before .before .before .before .before .before .before .before .before .before .before .before .args .s .now)) (c .before .before .before .before .before .before .before .before .before .before .before .before .before .args .v) ≡ at (c .before .before .before .opened .given .0 .0) =
+    let p = c .before .before .before .before .before .before .before .before .before .pre .1 in
+    let e : nodeTime (fetchedAt (c .before .before .before .before .before .before .before .before .before .args .levels) (c .before .before .before .before .before .before .before .before .before .args .s .now)) (c .before .before .before .before .before .before .before .before .before .args .v) ≡ at (c .before .before .before .opened .given .0 .0) =
     sym (stands-open (p .1 .0)) ∙ sym (c .before .before .before .before .before .open-node .ensures) ∙ ap timeOpened (c .before .before .before .opened .given .1) in
-    (omega (arith, c .before .before .before .before .before .before .before .before .before .before .before .before .before .pre .0, place-in (c .before .before .before .before .before .before .before .before .before .before .before .before .before .args .pins) (omega arith)), (p .0, stands-left (p .1 .0) (p .1 .1) (omega arith) _ e _ (c .before .root-place .ensures)))
+    (omega (arith, c .before .before .before .before .before .before .before .before .before .pre .0, place-in (c .before .before .before .before .before .before .before .before .before .args .pins) (omega arith)), (p .0, stands-left (p .1 .0) (p .1 .1) (omega arith) _ e _ (c .before .root-place .ensures)))
 
 enum-told : (t : ℕ) → lts.Need-enum-told (calls t) (given t) reads.Post
 enum-told t c = search needs
@@ -125,57 +97,57 @@ same-length t c = c .before .before .before .before .before .list-under .kept .0
 
 returns-3 : (t : ℕ) → lts.Need-returns-3 (calls t) (given t) reads.Post
 returns-3 t c =
-    let p = c .before .before .before .before .before .before .before .before .before .before .before .before .before .before .before .before .before .before .before .pre .1 in
-    let e : nodeTime (fetchedAt (c .before .before .before .before .before .before .before .before .before .before .before .before .before .before .before .before .before .before .before .args .t3) (c .before .before .before .before .before .before .before .before .before .before .before .before .before .before .before .before .before .before .before .args .s .now)) (c .before .before .before .before .before .before .before .before .before .before .before .before .before .before .before .before .before .before .before .args .v) ≡ at (c .before .before .before .before .before .before .before .before .before .opened .given .0 .0) =
+    let p = c .before .before .before .before .before .before .before .before .before .before .before .before .before .before .before .pre .1 in
+    let e : nodeTime (fetchedAt (c .before .before .before .before .before .before .before .before .before .before .before .before .before .before .before .args .levels) (c .before .before .before .before .before .before .before .before .before .before .before .before .before .before .before .args .s .now)) (c .before .before .before .before .before .before .before .before .before .before .before .before .before .before .before .args .v) ≡ at (c .before .before .before .before .before .before .before .before .before .opened .given .0 .0) =
     sym (stands-open (p .1 .0)) ∙ sym (c .before .before .before .before .before .before .before .before .before .before .before .open-node .ensures) ∙ ap timeOpened (c .before .before .before .before .before .before .before .before .before .opened .given .1) in
-    listed-left (p .1 .0) (p .1 .1) (omega arith) _ e _ (c .before .before .before .before .before .before .before .root-place .ensures) (c .before .before .before .before .before .before .before .before .before .before .before .before .before .before .before .before .before .before .before .args .times .now) (c .before .before .before .before .before .list-under .last .0) (c .before .before .before .before .before .list-under .ensures .1)
+    listed-left (p .1 .0) (p .1 .1) (omega arith) _ e _ (c .before .before .before .before .before .before .before .root-place .ensures) (c .before .before .before .before .before .before .before .before .before .before .before .before .before .before .before .args .times .now) (c .before .before .before .before .before .list-under .last .0) (c .before .before .before .before .before .list-under .ensures .1)
     _ _ _ _ refl (sym (ap listed (c .before .left .given .1)) ∙ c .before .before .before .before .before .list-under .ensures .0)
 
 add-at : (t : ℕ) → lts.Need-add-at (calls t) (given t) reads.Post
-add-at t c = omega (arith, place-in (c .before .before .before .before .before .before .before .before .before .before .before .before .before .before .before .before .before .before .args .pins) (omega arith), c .before .before .before .before .before .before .before .before .before .before .before .before .before .before .before .before .before .before .pre .1 .1 .0 .inside, level (c .before .before .before .before .before .before .before .before .before .before .before .before .before .before .before .before .before .before .pre .1 .0 .0) (c .before .before .before .before .before .before .before .before .before .before .before .before .before .before .before .before .before .before .pre .1 .1 .0) (omega arith))
+add-at t c = omega (arith, place-in (c .before .before .before .before .before .before .before .before .before .before .before .before .before .before .args .pins) (omega arith), c .before .before .before .before .before .before .before .before .before .before .before .before .before .before .pre .1 .1 .0 .inside, level (c .before .before .before .before .before .before .before .before .before .before .before .before .before .before .pre .1 .0 .0) (c .before .before .before .before .before .before .before .before .before .before .before .before .before .before .pre .1 .1 .0) (omega arith))
 
 sub-at : (t : ℕ) → lts.Need-sub-at (calls t) (given t) reads.Post
-sub-at t c = omega (arith, place-in (c .before .before .before .before .before .before .before .before .before .before .before .before .before .before .before .before .before .before .args .pins) (omega arith))
+sub-at t c = omega (arith, place-in (c .before .before .before .before .before .before .before .before .before .before .before .before .before .before .args .pins) (omega arith))
 
 mul-times : (t : ℕ) → lts.Need-mul-times (calls t) (given t) reads.Post
-mul-times t c = omega (arith, place-in (c .before .before .before .before .before .before .before .before .before .before .before .before .before .before .before .before .before .before .args .pins) (omega arith), c .before .before .before .before .before .before .before .before .before .before .before .before .before .before .before .before .before .before .pre .1 .1 .0 .inside, level (c .before .before .before .before .before .before .before .before .before .before .before .before .before .before .before .before .before .before .pre .1 .0 .0) (c .before .before .before .before .before .before .before .before .before .before .before .before .before .before .before .before .before .before .pre .1 .1 .0) (omega arith))
+mul-times t c = omega (arith, place-in (c .before .before .before .before .before .before .before .before .before .before .before .before .before .before .args .pins) (omega arith), c .before .before .before .before .before .before .before .before .before .before .before .before .before .before .pre .1 .1 .0 .inside, level (c .before .before .before .before .before .before .before .before .before .before .before .before .before .before .pre .1 .0 .0) (c .before .before .before .before .before .before .before .before .before .before .before .before .before .before .pre .1 .1 .0) (omega arith))
 
 slice-write-times : (t : ℕ) → lts.Need-slice-write-times (calls t) (given t) reads.Post
-slice-write-times t c = omega (arith, place-in (c .before .before .before .before .before .before .before .before .before .before .before .before .before .before .before .before .before .before .args .pins) (omega arith), c .before .before .before .before .before .before .before .before .before .before .before .before .before .before .before .before .before .before .pre .1 .1 .0 .inside, c .before .before .before .before .before .before .before .before .before .before .before .before .before .before .before .before .before .before .pre .1 .0 .1, c .before .before .before .before .list-under .kept .0)
+slice-write-times t c = omega (arith, place-in (c .before .before .before .before .before .before .before .before .before .before .before .before .before .before .args .pins) (omega arith), c .before .before .before .before .before .before .before .before .before .before .before .before .before .before .pre .1 .1 .0 .inside, c .before .before .before .before .before .before .before .before .before .before .before .before .before .before .pre .1 .0 .1, c .before .before .before .before .list-under .kept .0)
 
 add-list-under-2 : (t : ℕ) → lts.Need-add-list-under-2 (calls t) (given t) reads.Post
-add-list-under-2 t c = omega (arith, place-in (c .before .before .before .before .before .before .before .before .before .before .before .before .before .before .before .before .before .before .before .args .pins) (omega arith), c .before .before .before .before .before .before .before .before .before .before .before .before .before .before .before .before .before .before .before .pre .1 .1 .0 .inside, level (c .before .before .before .before .before .before .before .before .before .before .before .before .before .before .before .before .before .before .before .pre .1 .0 .0) (c .before .before .before .before .before .before .before .before .before .before .before .before .before .before .before .before .before .before .before .pre .1 .1 .0) (omega arith))
+add-list-under-2 t c = omega (arith, place-in (c .before .before .before .before .before .before .before .before .before .before .before .before .before .before .before .args .pins) (omega arith), c .before .before .before .before .before .before .before .before .before .before .before .before .before .before .before .pre .1 .1 .0 .inside, level (c .before .before .before .before .before .before .before .before .before .before .before .before .before .before .before .pre .1 .0 .0) (c .before .before .before .before .before .before .before .before .before .before .before .before .before .before .before .pre .1 .1 .0) (omega arith))
 
 sub-list-under-2 : (t : ℕ) → lts.Need-sub-list-under-2 (calls t) (given t) reads.Post
-sub-list-under-2 t c = omega (arith, place-in (c .before .before .before .before .before .before .before .before .before .before .before .before .before .before .before .before .before .before .before .args .pins) (omega arith))
+sub-list-under-2 t c = omega (arith, place-in (c .before .before .before .before .before .before .before .before .before .before .before .before .before .before .before .args .pins) (omega arith))
 
 mul-list-under-2 : (t : ℕ) → lts.Need-mul-list-under-2 (calls t) (given t) reads.Post
-mul-list-under-2 t c = omega (arith, level (c .before .before .before .before .before .before .before .before .before .before .before .before .before .before .before .before .before .before .before .pre .1 .0 .0) (c .before .before .before .before .before .before .before .before .before .before .before .before .before .before .before .before .before .before .before .pre .1 .1 .0) (omega arith), stands-node (c .before .before .before .before .before .before .before .before .before .before .before .before .before .before .before .before .before .before .before .pre .1 .1 .0) (omega arith))
+mul-list-under-2 t c = omega (arith, level (c .before .before .before .before .before .before .before .before .before .before .before .before .before .before .before .pre .1 .0 .0) (c .before .before .before .before .before .before .before .before .before .before .before .before .before .before .before .pre .1 .1 .0) (omega arith), stands-node (c .before .before .before .before .before .before .before .before .before .before .before .before .before .before .before .pre .1 .1 .0) (omega arith))
 
 add-list-under-3 : (t : ℕ) → lts.Need-add-list-under-3 (calls t) (given t) reads.Post
-add-list-under-3 t c = omega (arith, level (c .before .before .before .before .before .before .before .before .before .before .before .before .before .before .before .before .before .before .before .pre .1 .0 .0) (c .before .before .before .before .before .before .before .before .before .before .before .before .before .before .before .before .before .before .before .pre .1 .1 .0) (omega arith), stands-node (c .before .before .before .before .before .before .before .before .before .before .before .before .before .before .before .before .before .before .before .pre .1 .1 .0) (omega arith))
+add-list-under-3 t c = omega (arith, level (c .before .before .before .before .before .before .before .before .before .before .before .before .before .before .before .pre .1 .0 .0) (c .before .before .before .before .before .before .before .before .before .before .before .before .before .before .before .pre .1 .1 .0) (omega arith), stands-node (c .before .before .before .before .before .before .before .before .before .before .before .before .before .before .before .pre .1 .1 .0) (omega arith))
 
 add-list-under-4 : (t : ℕ) → lts.Need-add-list-under-4 (calls t) (given t) reads.Post
-add-list-under-4 t c = omega (arith, level (c .before .before .before .before .before .before .before .before .before .before .before .before .before .before .before .before .before .before .before .pre .1 .0 .0) (c .before .before .before .before .before .before .before .before .before .before .before .before .before .before .before .before .before .before .before .pre .1 .1 .0) (omega arith))
+add-list-under-4 t c = omega (arith, level (c .before .before .before .before .before .before .before .before .before .before .before .before .before .before .before .pre .1 .0 .0) (c .before .before .before .before .before .before .before .before .before .before .before .before .before .before .before .pre .1 .1 .0) (omega arith))
 
 list-under-requires-2 : (t : ℕ) → lts.Need-list-under-requires-2 (calls t) (given t) reads.Post
 list-under-requires-2 t c κs =
-    let p = c .before .before .before .before .before .before .before .before .before .before .before .before .before .before .before .before .before .before .before .pre .1 in
-    let e : nodeTime (fetchedAt (c .before .before .before .before .before .before .before .before .before .before .before .before .before .before .before .before .before .before .before .args .t3) (c .before .before .before .before .before .before .before .before .before .before .before .before .before .before .before .before .before .before .before .args .s .now)) (c .before .before .before .before .before .before .before .before .before .before .before .before .before .before .before .before .before .before .before .args .v) ≡ at (c .before .before .before .before .before .before .before .before .before .opened .given .0 .0) =
+    let p = c .before .before .before .before .before .before .before .before .before .before .before .before .before .before .before .pre .1 in
+    let e : nodeTime (fetchedAt (c .before .before .before .before .before .before .before .before .before .before .before .before .before .before .before .args .levels) (c .before .before .before .before .before .before .before .before .before .before .before .before .before .before .before .args .s .now)) (c .before .before .before .before .before .before .before .before .before .before .before .before .before .before .before .args .v) ≡ at (c .before .before .before .before .before .before .before .before .before .opened .given .0 .0) =
     sym (stands-open (p .1 .0)) ∙ sym (c .before .before .before .before .before .before .before .before .before .before .before .open-node .ensures) ∙ ap timeOpened (c .before .before .before .before .before .before .before .before .before .opened .given .1) in
-    let room : c .before .before .before .before .before .before .before .before .before .before .before .before .before .before .before .before .before .before .before .args .t3 .pins ≤ length (set (c .before .before .before .before .before .list-under .last .0) (c .before .before .before .before .before .before .before .before .before .before .before .before .before .before .before .before .before .before .before .args .start + c .before .before .before .before .before .before .before .root-place .result - 1) (c .before .before .before .before .before .before .before .before .before .opened .given .0 .0)) =
-    omega (arith, length-set (c .before .before .before .before .before .list-under .last .0) (c .before .before .before .before .before .before .before .before .before .before .before .before .before .before .before .before .before .before .before .args .start + c .before .before .before .before .before .before .before .root-place .result - 1) (c .before .before .before .before .before .before .before .before .before .opened .given .0 .0), c .before .before .before .before .before .list-under .kept .0, p .0 .1) in
-    (omega (arith, c .before .before .before .before .before .before .before .before .before .before .before .before .before .before .before .before .before .before .before .pre .0, place-in (c .before .before .before .before .before .before .before .before .before .before .before .before .before .before .before .before .before .before .before .args .pins) (omega arith)), ((p .0 .0, room), stands-right (p .1 .0) (p .1 .1) (omega arith) _ e _ (c .before .before .before .before .before .before .before .root-place .ensures)))
+    let room : c .before .before .before .before .before .before .before .before .before .before .before .before .before .before .before .args .levels .pins ≤ length (set (c .before .before .before .before .before .list-under .last .0) (c .before .before .before .before .before .before .before .before .before .before .before .before .before .before .before .args .start + c .before .before .before .before .before .before .before .root-place .result - 1) (c .before .before .before .before .before .before .before .before .before .opened .given .0 .0)) =
+    omega (arith, length-set (c .before .before .before .before .before .list-under .last .0) (c .before .before .before .before .before .before .before .before .before .before .before .before .before .before .before .args .start + c .before .before .before .before .before .before .before .root-place .result - 1) (c .before .before .before .before .before .before .before .before .before .opened .given .0 .0), c .before .before .before .before .before .list-under .kept .0, p .0 .1) in
+    (omega (arith, c .before .before .before .before .before .before .before .before .before .before .before .before .before .before .before .pre .0, place-in (c .before .before .before .before .before .before .before .before .before .before .before .before .before .before .before .args .pins) (omega arith)), ((p .0 .0, room), stands-right (p .1 .0) (p .1 .1) (omega arith) _ e _ (c .before .before .before .before .before .before .before .root-place .ensures)))
 
 same-length-2 : (t : ℕ) → lts.Need-same-length-2 (calls t) (given t) reads.Post
-same-length-2 t c = c .before .before .list-under2 .kept .0 ∙ length-set (c .before .before .before .before .before .before .before .before .list-under .last .0) (c .before .before .before .before .before .before .before .before .before .before .before .before .before .before .before .before .before .before .before .before .before .before .args .start + c .before .before .before .before .before .before .before .before .before .before .root-place .result - 1) (c .before .before .before .before .before .before .before .before .before .before .before .before .opened .given .0 .0) ∙ c .before .before .before .before .before .before .before .before .list-under .kept .0
+same-length-2 t c = c .before .before .list-under2 .kept .0 ∙ length-set (c .before .before .before .before .before .before .before .before .list-under .last .0) (c .before .before .before .before .before .before .before .before .before .before .before .before .before .before .before .before .before .before .args .start + c .before .before .before .before .before .before .before .before .before .before .root-place .result - 1) (c .before .before .before .before .before .before .before .before .before .before .before .before .opened .given .0 .0) ∙ c .before .before .before .before .before .before .before .before .list-under .kept .0
 
 returns-4 : (t : ℕ) → lts.Need-returns-4 (calls t) (given t) reads.Post
 returns-4 t c =
-    let p = c .before .before .before .before .before .before .before .before .before .before .before .before .before .before .before .before .before .before .before .before .before .before .pre .1 in
-    let e : nodeTime (fetchedAt (c .before .before .before .before .before .before .before .before .before .before .before .before .before .before .before .before .before .before .before .before .before .before .args .t3) (c .before .before .before .before .before .before .before .before .before .before .before .before .before .before .before .before .before .before .before .before .before .before .args .s .now)) (c .before .before .before .before .before .before .before .before .before .before .before .before .before .before .before .before .before .before .before .before .before .before .args .v) ≡ at (c .before .before .before .before .before .before .before .before .before .before .before .before .opened .given .0 .0) =
+    let p = c .before .before .before .before .before .before .before .before .before .before .before .before .before .before .before .before .before .before .pre .1 in
+    let e : nodeTime (fetchedAt (c .before .before .before .before .before .before .before .before .before .before .before .before .before .before .before .before .before .before .args .levels) (c .before .before .before .before .before .before .before .before .before .before .before .before .before .before .before .before .before .before .args .s .now)) (c .before .before .before .before .before .before .before .before .before .before .before .before .before .before .before .before .before .before .args .v) ≡ at (c .before .before .before .before .before .before .before .before .before .before .before .before .opened .given .0 .0) =
     sym (stands-open (p .1 .0)) ∙ sym (c .before .before .before .before .before .before .before .before .before .before .before .before .before .before .open-node .ensures) ∙ ap timeOpened (c .before .before .before .before .before .before .before .before .before .before .before .before .opened .given .1) in
-    listed-right (p .1 .0) (p .1 .1) (omega arith) _ e _ (c .before .before .before .before .before .before .before .before .before .before .root-place .ensures) (c .before .before .before .before .before .before .before .before .before .before .before .before .before .before .before .before .before .before .before .before .before .before .args .times .now) (c .before .before .before .before .before .before .before .before .list-under .last .0) (c .before .before .before .before .before .before .before .before .list-under .ensures .1)
+    listed-right (p .1 .0) (p .1 .1) (omega arith) _ e _ (c .before .before .before .before .before .before .before .before .before .before .root-place .ensures) (c .before .before .before .before .before .before .before .before .before .before .before .before .before .before .before .before .before .before .args .times .now) (c .before .before .before .before .before .before .before .before .list-under .last .0) (c .before .before .before .before .before .before .before .before .list-under .ensures .1)
     (sym (ap listed (c .before .before .before .before .enum-told .given .1)) ∙ c .before .before .before .before .before .before .before .before .list-under .ensures .0) (omega (arith, p .1 .0 .inside, p .0 .1))
     (listed (c .before .before .list-under2 .result)) (c .before .before .list-under2 .last .0) (c .before .before .list-under2 .ensures .0) (c .before .before .list-under2 .ensures .1)
 
@@ -184,15 +156,6 @@ pub +list-under-spec : {M : Type 1} → statement M
     (given t)
     reads.Post
     (returns t)
-    (mul-from t)
-    (element-copy-out-from t)
-    (add-to t)
-    (mul-to t)
-    (element-copy-out-to t)
-    (element-copy-out-code t)
-    (sub-open-node t)
-    (part-open-node-start t)
-    (part-open-node-end t)
     (open-node-requires t)
     (enum-known-opened t)
     (enum-known-opened-2 t)
