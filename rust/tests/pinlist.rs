@@ -47,7 +47,7 @@ fn output_in_pieces(input: &[u8], piece: usize, pause: Duration) -> String {
         scope.spawn(|| feed(stdin, input, piece, pause));
         child.wait_with_output().expect("output")
     });
-    assert!(output.status.code().is_some(), "{}", output.status);
+    assert!(output.status.success(), "{}", output.status);
     assert!(output.stderr.is_empty(), "{output:?}");
     String::from_utf8(output.stdout).expect("letters and digits")
 }

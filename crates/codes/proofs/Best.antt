@@ -13,9 +13,9 @@ use borrow.Author.Tests.{lt-ltb, le-ltb, ltb-true, ltb-false}
 use Rattle.codes.specs.declared.choosing.Choice.{Choice}
 use Rattle.codes.specs.declared.kinds.Kind.{Kind}
 use Rattle.codes.specs.declared.kinds.Kind.the-variants.{Fixed, Chunked, Refused}
-use Rattle.codes.specs.Codes.{kindOf, kindBits, chunked, levelBits, part, Within, Holds}
+use Rattle.codes.specs.Codes.{kindOf, kindBits, chunked, Within, Holds}
 use Rattle.codes.specs.Choice.{widest, size, offer, better, bestChunked, chosen}
-use Rattle.codes.proofs.Bits.{length-fixed, length-padded}
+use Rattle.codes.proofs.Bits.{length-fixed}
 use Rattle.codes.proofs.CodeByte.{kind-fixed, kind-chunked, Known, kind-known}
 use Rattle.codes.proofs.Widths.{widest-holds, widest-least, widest-le}
 
@@ -153,7 +153,3 @@ chosen-first vs code = go (kindOf code) (kind-known code)
 -- a code of width 32 holds the values
 pub chosen-at-most : (vs : List ℕ) → Within 32 vs → chosen vs .size ≤ length vs * 32
 chosen-at-most vs h = rw (size-fixed 32 vs (omega arith)) at (chosen-first vs 32 (rw (kind-fixed 32 (omega arith)) h) .0)
-
--- so its part has at most 4 bytes for each value
-pub chosen-room : (vs : List ℕ) → Within 32 vs → length (part (chosen vs .code) vs) ≤ length vs * 4
-chosen-room vs h = omega (arith, length-padded (levelBits (chosen vs .code) vs), chosen-size vs, chosen-at-most vs h)

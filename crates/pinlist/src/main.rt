@@ -1,10 +1,8 @@
 // Reads a strip from standard input, checks it, and lists its times by access.
 use libc::STDIN_FILENO;
 use libc::STDOUT_FILENO;
-use strip::Accessed;
-use strip::Checked;
-use strip::Refusal;
-use strip::Strip;
+use strip_c::gemcotton_access;
+use strip_c::gemcotton_check;
 ghost use Prim.Native.Nat.{_+_, _≤_};
 ghost use lib.ListN.{length};
 
@@ -33,20 +31,17 @@ fn put_line(text: &mut [u8], at: usize, x: usize, y: usize) -> usize
     put_number(text, next, y as u64, b'\n')
 }
 
-// Puts the line of position i. No access to a strip that check accepts is refused.
+// Puts the line of position i. No access to a strip that check accepts is refused, so the value is the time.
 fn put_time(text: &mut [u8], at: usize, s: &[u8], i: usize) -> usize
     requires { ⌜ at + 42 ≤ length (now text) ⌝ }
     ensures { λ r. ⌜ r ≤ at + 42 ⌝ }
 {
-    let found = Strip::access(s, i);
-    match found {
-        Accessed::Time(t, _) => put_line(text, at, i, t as usize),
-        Accessed::Refused(_) => at,
-    }
+    let found = gemcotton_access(s, i);
+    put_line(text, at, i, found.value)
 }
 
 // Writes the text where it is nearly full. Answers where the next line goes.
-fn written(text: &[u8], at: usize) -> usize
+fn flushed(text: &[u8], at: usize) -> usize
     requires { ⌜ at ≤ length (now text) ⌝ }
     ensures { λ r. ⌜ r ≤ 65000 ⌝ }
 {
@@ -64,7 +59,7 @@ fn list_times(s: &[u8], n: usize) {
     let mut at = put_number(&mut text, 0, n as u64, b'\n');
     let mut i: usize = 0;
     while i < n {
-        let next = written(&text, at);
+        let next = flushed(&text, at);
         at = put_time(&mut text, next, s, i);
         i += 1;
     }
@@ -72,18 +67,19 @@ fn list_times(s: &[u8], n: usize) {
 }
 
 // Prints a refusal's number and what it carries.
-fn print_refusal(r: Refusal) {
+fn print_refusal(number: usize, carried: usize) {
     io::write_all(STDOUT_FILENO, b"refused ");
     let mut text = [0u8; 42];
-    let n = put_line(&mut text, 0, r.number(), r.carried());
+    let n = put_line(&mut text, 0, number, carried);
     io::write_all(STDOUT_FILENO, &text[..n]);
 }
 
 fn print_strip(s: &[u8]) {
-    let checked = Strip::check(s);
-    match checked {
-        Checked::Pins(n) => list_times(s, n),
-        Checked::Refused(r) => print_refusal(r),
+    let checked = gemcotton_check(s);
+    if checked.refusal == 0 {
+        list_times(s, checked.value);
+    } else {
+        print_refusal(checked.refusal, checked.value);
     }
 }
 

@@ -109,16 +109,16 @@ module _ (s : List ℕ) (levels : Levels) where
     abbrev pub Unpacks : Outcome ℕ → List ℕ → Type 0
     Unpacks answer now = (answer ≡ unpackIn s (length out) levels) × (now ≡ written (unpackIn s (length out) levels) (listIn s levels) out)
 
-    pub unpack-short : (n : ℕ) → gives n ≡ checkIn s levels → length out < n → Unpacks (refuses 4 n) out
-    unfolding verdict
-    unpack-short n e h = rw (← e, lt-ltb (length out) n h) (refl, refl)
-
     pub unpack-refused : (r c : ℕ) → refuses r c ≡ checkIn s levels → Unpacks (refuses r c) out
     unpack-refused r c e = rw (← e) (refl, refl)
 
-    pub unpack-whole : (n : ℕ) (xs now : List ℕ) → gives n ≡ checkIn s levels → n ≤ length out → xs ≡ listIn s levels → now ≡ xs ++ drop (length xs) out → Unpacks (gives n) now
-    unfolding verdict
-    unpack-whole n xs now e h x w = rw (← e, le-ltb (length out) n h, ← x) (refl, w)
+    -- the list is put where there is room for it
+    pub unpack-listed : (n : ℕ) (xs : List ℕ) → gives n ≡ checkIn s levels → xs ≡ listIn s levels → (answer : Outcome ℕ) (now : List ℕ)
+        → answer ≡ packedInto (length out) xs → now ≡ written (packedInto (length out) xs) xs out → Unpacks answer now
+    unpack-listed n xs e x answer now a w =
+        let l : length xs ≡ n = ap length x ∙ accepted-count n e in
+        let p : packedInto (length out) xs ≡ unpackIn s (length out) levels = rw (← e, l) in
+        (a ∙ p, w ∙ ap (λ (o : Outcome ℕ). written o xs out) p ∙ ap (λ (ys : List ℕ). written (unpackIn s (length out) levels) ys out) x)
 
 -- ---- the image
 

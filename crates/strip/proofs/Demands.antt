@@ -2,14 +2,14 @@
 use mathlib.Core.Path.{_≡_, refl, sym, ap, subst, _∙_}
 use mathlib.Core.Logic.{_↔_}
 use mathlib.Core.Bool.{true, not}
-use mathlib.Core.List.{List, _++_, append-nil}
+use mathlib.Core.List.{List, _++_}
 use Prim.Native.Nat.{ℕ, _+_, _*_, _/_, _%_, _≤_}
 use native.Mathlib.Nat.{le-refl}
 use native.Mathlib.Omega.{arith}
 use lib.Dec.{eqb, ltb}
-use lib.ListN.{length, drop}
-use lib.Seq.{drop-length}
-use borrow.Author.Tests.{eqb-false, ltb-false, not-false, le-ltb}
+use lib.ListN.{length, take, drop}
+use lib.Seq.{take-at}
+use borrow.Author.Tests.{eqb-false, ltb-false, not-false, ne-eqb, le-ltb}
 use Rattle.codes.specs.Codes.{Within}
 use Rattle.tree.specs.declared.nodes.Levels.{Levels}
 use Rattle.tree.specs.Lists.{ordered, smaller}
@@ -25,17 +25,20 @@ use Rattle.strip.specs.Image.{stripOf, image}
 use Rattle.strip.specs.Opening.{levelsIn, opening}
 use Rattle.strip.specs.Calls.{packAnswer, written, packOutput, searchOf, listIn, checkIn, checkOf, checked, plainList, unpackOf, unpackOutput}
 use Rattle.strip.specs.Promises.{Packable, Opens}
-use Rattle.strip.specs.Demands.{PacksTo, UnpacksTo, Accepted, CheckAccepts, CodeAccepts, Demand2}
+use Rattle.strip.specs.Demands.{PacksTo, UnpacksTo, FewestBits, Accepted, CheckAccepts, CodeAccepts, Demand2}
 use Rattle.strip.proofs.Same.{is-true, same-lists, same-itself}
 use Rattle.strip.proofs.Verdicts.{gives-refuses, verdict-gives, verdict-passed}
 use Rattle.strip.proofs.Readings.{check-all}
 use Rattle.strip.proofs.Checks.{list-count, accepts}
-use Rattle.strip.proofs.Promises.{packs-once, image-opens, round-trip}
+use Rattle.strip.proofs.Promises.{image-opens, round-trip}
 
 -- ---- from a list to its strip
 
-packs : (xs : List ℕ) → Packable xs → PacksTo xs (image xs)
-packs xs p out room = let once = packs-once xs out p room in (once .answer, once .output)
+packs : (xs : List ℕ) → Packable xs → (out : List ℕ) → length (image xs) ≤ length out → PacksTo xs (image xs) out
+unfolding packAnswer packOutput verdict
+packs xs p out room =
+    rw (ne-eqb (length xs) 0 (λ e. omega (arith, p .some)), le-ltb maxPins (length xs) (p .few), is-true (ordered xs) (p .in-order), le-ltb (length out) (length (image xs)) room)
+    (refl, refl)
 
 -- the strip's levels hold the list, so check and unpack read it back
 module _ (xs : List ℕ) (p : Packable xs) where
@@ -60,30 +63,31 @@ module _ (xs : List ℕ) (p : Packable xs) where
       let o : ordered xs ≡ true = is-true (ordered xs) (p .in-order) in
       rw (opens .opened) (check-all (image xs) levels stop ∙ rw (list-back, o, same-itself (image xs)) (ap gives (opens .held .stores .pins-are)))
 
-  unpacks-back : UnpacksTo (image xs) xs
+  fewest-bits : FewestBits xs (image xs) levels
+  fewest-bits = record { opened = opens .opened; stores = opens .held .stores; fewest = opens .fewest }
+
+  unpacks-back : (out : List ℕ) → length xs ≤ length out → UnpacksTo (image xs) xs out
   unfolding unpackOf unpackOutput verdict
   unpacks-back out room = rw (check-back, plain-back, le-ltb (length out) (length xs) room) (refl, refl)
 
 -- ---- from a strip to its list
 
-module _ (xs s : List ℕ) (to : PacksTo xs s) where
-  answer : packAnswer xs (length s) ≡ gives (length s)
-  answer = to s (le-refl (length s)) .0
-
+module _ (xs s out : List ℕ) (to : PacksTo xs s out) where
   length-is : length (image xs) ≡ length s
   unfolding packAnswer
-  length-is = verdict-gives _ (length (image xs)) (length s) answer
+  length-is = verdict-gives _ (length (image xs)) (length s) (to .0)
 
+  -- both stand at the front of the output
   image-is : s ≡ image xs
   unfolding packOutput
   image-is =
-      let e : image xs ++ drop (length (image xs)) s ≡ s ++ drop (length s) s = ap (λ (o : Outcome ℕ). written o (image xs) s) (sym answer) ∙ to s (le-refl (length s)) .1 in
-      sym (append-nil s) ∙ rw (length-is, drop-length s, append-nil (image xs)) at (sym e)
+      let e : image xs ++ drop (length (image xs)) out ≡ s ++ drop (length s) out = ap (λ (o : Outcome ℕ). written o (image xs) out) (sym (to .0)) ∙ to .1 in
+      sym (take-at s (drop (length s) out) (length s) refl) ∙ ap (take (length s)) (sym e) ∙ take-at (image xs) (drop (length (image xs)) out) (length s) length-is
 
   packable : Within 32 xs → Packable xs
   unfolding packAnswer
   packable w =
-      let a = verdict-passed (eqb (length xs) 0) _ _ _ _ _ answer in
+      let a = verdict-passed (eqb (length xs) 0) _ _ _ _ _ (to .0) in
       let b = verdict-passed (ltb maxPins (length xs)) _ _ _ _ _ (a .1) in
       let c = verdict-passed (not (ordered xs)) _ _ _ _ _ (b .1) in
       record {
@@ -138,33 +142,41 @@ accepted s (n, e) = go (opening s) refl e
     go : (o : Outcome Levels) → opening s ≡ o → after o (checkIn s) ≡ gives n → Accepted s
     go (gives levels) o c =
         let p = read-packable s levels o n c in
-        (xs s levels o n c, p .times, subst (PacksTo (xs s levels o n c)) (read-image s levels o n c) (packs (xs s levels o n c) p))
+        let ys = xs s levels o n c in
+        (ys, p .times, (image ys, subst (λ (l : List ℕ). PacksTo ys l (image ys)) (read-image s levels o n c) (packs ys p (image ys) (le-refl (length (image ys))))))
     go (refuses r q) o c = absurd (gives-refuses (sym c))
 
+counts : (s xs out : List ℕ) → Within 32 xs → PacksTo xs s out → checkOf s ≡ gives (length xs)
+counts s xs out w to = ap checkOf (image-is xs s out to) ∙ check-back xs (packable xs s out to w)
+
 check-accepts : (s : List ℕ) → Accepted s → CheckAccepts s
-check-accepts s (xs, w, to) = (length xs, ap checkOf (image-is xs s to) ∙ check-back xs (packable xs s to w))
+check-accepts s (xs, w, (out, to)) = (length xs, counts s xs out w to)
 
 code-accepts : (s : List ℕ) (r : Checked) → checked r ≡ checkOf s → CodeAccepts r ↔ Accepted s
 code-accepts s (Pins n) e = (λ _. accepted s (n, sym e), λ _. tt)
 code-accepts s (Refused r) e = (λ h. absurd h, λ a. gives-refuses (sym (e ∙ check-accepts s a .1)))
 
-one-list : (s xs : List ℕ) → Within 32 xs → PacksTo xs s → Packable xs × (xs ≡ plainList s)
-one-list s xs w to =
-    let p = packable xs s to w in
-    (p, sym (ap plainList (image-is xs s to) ∙ plain-back xs p))
+one-list : (s xs out : List ℕ) → Within 32 xs → PacksTo xs s out → Packable xs × (xs ≡ plainList s)
+one-list s xs out w to =
+    let p = packable xs s out to w in
+    (p, sym (ap plainList (image-is xs s out to) ∙ plain-back xs p))
+
+pin-count : (s : List ℕ) → Accepted s → checkOf s ≡ gives (length (plainList s))
+pin-count s (xs, w, (out, to)) = counts s xs out w to ∙ ap (λ (l : List ℕ). gives (length l)) (one-list s xs out w to .1)
 
 searches : (s : List ℕ) → Accepted s → (t : ℕ) → searchOf s t ≡ found (smaller t (plainList s)) (length (path (plainList s) t))
-searches s (xs, w, to) t =
-    let one = one-list s xs w to in
-    ap (λ (l : List ℕ). searchOf l t) (image-is xs s to) ∙ round-trip xs (one .0) .search t ∙ ap (λ (l : List ℕ). found (smaller t l) (length (path l t))) (one .1)
+searches s (xs, w, (out, to)) t =
+    let one = one-list s xs out w to in
+    ap (λ (l : List ℕ). searchOf l t) (image-is xs s out to) ∙ round-trip xs (one .0) .search t ∙ ap (λ (l : List ℕ). found (smaller t l) (length (path l t))) (one .1)
 
 pub demand-2 : Demand2
 demand-2 = record {
   packs = packs;
   one-strip = image-is;
-  fewest-bits = image-opens;
+  fewest-bits = λ xs p. (levels xs p, fewest-bits xs p);
   unpacks = unpacks-back;
   accepts = λ s. (accepted s, check-accepts s);
+  pin-count = pin-count;
   code-accepts = code-accepts;
   one-list = one-list;
   searches = searches;

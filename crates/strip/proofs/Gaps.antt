@@ -1,9 +1,10 @@
--- The first position with a time not r or more after the one before, from one position to the next. A list is ordered where there is
--- none for r = 0.
+-- The first position with a time before the one before it plus r, from one position to the next. For r = 0 it is the first lower one,
+-- and a list is ordered where there is none.
 use mathlib.Core.Path.{_≡_, refl, _∙_}
 use mathlib.Core.Bool.{true, false}
 use mathlib.Core.List.{List, [], _∷_}
 use Prim.Native.Nat.{ℕ, suc, _+_, _-_, _≤_, _<_}
+use native.Mathlib.Nat.{add-zero}
 use native.Mathlib.Decide.{decLt}
 use native.Mathlib.Omega.{arith}
 use lib.Dec.{leb, leb·suc-suc}
@@ -11,7 +12,8 @@ use lib.ListN.{length, drop, getD}
 use lib.Seq.{drop-cons}
 use borrow.Author.Tests.{lt-ltb, le-ltb, le-leb, lt-leb}
 use Rattle.tree.specs.Lists.{ordered}
-use Rattle.strip.specs.Lists.{firstNear, firstLower}
+use Rattle.strip.specs.Lists.{firstLower}
+use Rattle.strip.specs.Read.{firstNear}
 
 module _ (r : ℕ) where
   pub near-here : (x y : ℕ) (ys : List ℕ) → y < x + r → firstNear r (x ∷ y ∷ ys) ≡ 1
@@ -57,26 +59,20 @@ module _ (r : ℕ) where
 
 -- ---- order
 
-ordered-short : (xs : List ℕ) → length xs < 2 → ordered xs ≡ leb (length xs) (firstLower xs)
-unfolding ordered firstNear
-ordered-short [] h = refl
-ordered-short (x ∷ []) h = refl
-ordered-short (x ∷ y ∷ ys) h = absurd (omega arith)
+-- for r = 0 it is the first lower one
+pub lower-near : (xs : List ℕ) → firstLower xs ≡ firstNear 0 xs
+unfolding firstLower firstNear
+lower-near [] = refl
+lower-near (x ∷ []) = refl
+lower-near (x ∷ y ∷ ys) = rw (add-zero x, lower-near (y ∷ ys))
 
-ordered-here : (x y : ℕ) (ys : List ℕ) → y < x → ordered (x ∷ y ∷ ys) ≡ false
-unfolding ordered
-ordered-here x y ys h = rw (lt-leb x y h)
-
-ordered-later : (x y : ℕ) (ys : List ℕ) → x ≤ y → ordered (x ∷ y ∷ ys) ≡ ordered (y ∷ ys)
-unfolding ordered
-ordered-later x y ys h = rw (le-leb x y h)
-
-pub ordered-lower : (xs : List ℕ) → ordered xs ≡ leb (length xs) (firstLower xs)
-ordered-lower [] = ordered-short [] (omega arith)
-ordered-lower (x ∷ []) = ordered-short (x ∷ []) (omega arith)
+ordered-lower : (xs : List ℕ) → ordered xs ≡ leb (length xs) (firstLower xs)
+unfolding ordered firstLower
+ordered-lower [] = refl
+ordered-lower (x ∷ []) = refl
 ordered-lower (x ∷ y ∷ ys) = elim (decLt y x) [
-  | yes l ↦ rw (ordered-here x y ys l, near-here 0 x y ys (omega arith), lt-leb (suc (suc (length ys))) 1 (omega arith))
-  | no l ↦ rw (ordered-later x y ys (omega arith), near-later 0 x y ys (omega arith), leb·suc-suc (suc (length ys)) (firstLower (y ∷ ys))) (ordered-lower (y ∷ ys))
+  | yes l ↦ rw (lt-leb x y l, lt-ltb y x l, lt-leb (suc (suc (length ys))) 1 (omega arith))
+  | no l ↦ rw (le-leb x y (omega arith), le-ltb y x (omega arith), leb·suc-suc (suc (length ys)) (firstLower (y ∷ ys))) (ordered-lower (y ∷ ys))
 ]
 
 pub not-ordered : (xs : List ℕ) → firstLower xs < length xs → ordered xs ≡ false

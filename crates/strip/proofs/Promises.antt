@@ -14,26 +14,17 @@ use Rattle.tree.specs.Lists.{ordered}
 use Rattle.tree.specs.Stored.{storedValues}
 use Rattle.tree.specs.Levels.{codeOf, partOf, levelValues}
 use Rattle.tree.specs.Promises.{Held}
-use Rattle.tree.proofs.Promises.{stored-levels, contents, search-finds}
+use Rattle.tree.proofs.Promises.{height-least, stored-levels, contents, search-finds}
 use Rattle.strip.specs.Outcomes.{Outcome, gives, verdict}
 use Rattle.strip.specs.Layout.{maxPins}
 use Rattle.strip.specs.Image.{valuesAt, codeFor, partFor, planned, image}
 use Rattle.strip.specs.Opening.{opening}
 use Rattle.strip.specs.Calls.{packAnswer, written, packOutput, accessOf, searchOf, upToOf}
-use Rattle.strip.specs.Promises.{Packable, PacksOnce, RoomEnough, Opens, ImageOpens, ReadsBack, RoundTrip}
+use Rattle.strip.specs.Promises.{Packable, RoomEnough, Opens, ImageOpens, ReadsBack, RoundTrip}
 use Rattle.strip.proofs.Counts.{smaller-next, upTo-all}
 use Rattle.strip.proofs.Images.{strip-opens, part-back}
 use Rattle.strip.proofs.Same.{is-true}
 use Rattle.strip.proofs.Plans.{strip-small, plan-at, plan-pins, level-holds, values-within}
-
-packs : (xs out : List ℕ) → Packable xs → length (image xs) ≤ length out → packAnswer xs (length out) ≡ gives (length (image xs))
-unfolding packAnswer verdict
-packs xs out p room =
-    rw (ne-eqb (length xs) 0 (λ e. omega (arith, p .some)), le-ltb maxPins (length xs) (p .few), is-true (ordered xs) (p .in-order), le-ltb (length out) (length (image xs)) room)
-
-pub packs-once : PacksOnce
-unfolding packOutput
-packs-once xs out p room = let e = packs xs out p room in record { answer = e; output = ap (λ (o : Outcome ℕ). written o (image xs) out) e }
 
 module _ (xs : List ℕ) (p : Packable xs) where
   count : length (storedValues xs) ≡ length xs
@@ -114,7 +105,9 @@ module _ (xs : List ℕ) (p : Packable xs) where
   }
 
 pub room-enough : RoomEnough
-room-enough xs p = rw (count xs p) at (strip-small (storedValues xs) (within xs p))
+room-enough xs p =
+    let small = rw (count xs p) at (strip-small (storedValues xs) (within xs p)) in
+    (small, omega (arith, small, height-least .least (length xs) 16 (omega (arith, p .few)), p .few))
 
 pub image-opens : ImageOpens
 image-opens xs p = (planned (storedValues xs), image-opened xs p)

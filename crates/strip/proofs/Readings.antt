@@ -15,11 +15,11 @@ use Rattle.tree.specs.declared.nodes.Levels.{Levels}
 use Rattle.tree.specs.Lists.{ordered}
 use Rattle.tree.specs.Walks.{Answer, found, stopped}
 use Rattle.tree.specs.Listing.{Stop, nowhere, at, accesses, timesFrom, stopFrom}
-use Rattle.strip.specs.Lists.{firstNear, firstLower}
+use Rattle.strip.specs.Lists.{firstLower}
 use Rattle.strip.specs.Outcomes.{Outcome, gives, refuses, Test, test, verdict, after}
 use Rattle.strip.specs.Calls.{timeOr0, refusalTest, fallsAt, positionsTests, listIn, imageTest, checkIn, nearAt, repeatFrom}
-use Rattle.strip.specs.Read.{fallsTest, gapOr}
-use Rattle.strip.proofs.Gaps.{near-here, near-later, near-one, near-some, ordered-lower}
+use Rattle.strip.specs.Read.{firstNear, fallsTest, gapOr}
+use Rattle.strip.proofs.Gaps.{near-here, near-later, near-one, near-some, lower-near, not-ordered, is-ordered}
 
 -- what ends a reading after its last position
 abbrev pub ending : Stop → Outcome (Option ℕ)
@@ -110,8 +110,8 @@ module _ (answer : ℕ → Answer) {A : Type 0} (rest : List Test) (a : A) where
       go (found t j) true e = refl
       go (found t j) false e = e
 
--- where there is such a position for r = 0, its time is lower
-lower-at : (xs : List ℕ) → firstLower xs < length xs → getD xs (firstLower xs) 0 < getD xs (firstLower xs - 1) 0
+-- the first lower position has a lower time
+lower-at : (xs : List ℕ) → firstNear 0 xs < length xs → getD xs (firstNear 0 xs) 0 < getD xs (firstNear 0 xs - 1) 0
 unfolding firstNear
 lower-at [] h = absurd (omega arith)
 lower-at (x ∷ []) h = absurd (omega arith)
@@ -120,16 +120,16 @@ lower-at (x ∷ y ∷ ys) h = elim (decLt y (x + 0)) [
   | no l ↦
       let e = near-later 0 x y ys (omega arith) in
       let s = near-some 0 y ys in
-      let d : suc (firstLower (y ∷ ys)) - 1 ≡ suc (firstLower (y ∷ ys) - 1) = omega arith in
+      let d : suc (firstNear 0 (y ∷ ys)) - 1 ≡ suc (firstNear 0 (y ∷ ys) - 1) = omega arith in
       rw (e, d) (lower-at (y ∷ ys) (omega arith))
 ]
 
 falls-first : {A : Type 0} (xs : List ℕ) (end : Outcome (Option ℕ)) (f : Option ℕ → Outcome A)
     → after (gapOr 0 xs end) f ≡ cond (not (ordered xs)) (refuses 11 (firstLower xs)) (after end f)
-falls-first xs end f = elim (decLt (firstLower xs) (length xs)) [
+falls-first xs end f = elim (decLt (firstNear 0 xs) (length xs)) [
   | yes l ↦
-      rw (ordered-lower xs, lt-leb (length xs) (firstLower xs) l, lt-ltb (firstLower xs) (length xs) l, lt-ltb (getD xs (firstLower xs) 0) (getD xs (firstLower xs - 1) 0) (lower-at xs l))
-  | no l ↦ rw (ordered-lower xs, le-leb (length xs) (firstLower xs) (omega arith), le-ltb (firstLower xs) (length xs) (omega arith))
+      rw (not-ordered xs (rw (lower-near xs) l), lower-near xs, lt-ltb (firstNear 0 xs) (length xs) l, lt-ltb (getD xs (firstNear 0 xs) 0) (getD xs (firstNear 0 xs - 1) 0) (lower-at xs l))
+  | no l ↦ rw (is-ordered xs (rw (lower-near xs) (omega arith)), le-ltb (firstNear 0 xs) (length xs) (omega arith))
 ]
 
 module _ (s : List ℕ) (levels : Levels) where

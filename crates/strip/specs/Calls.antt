@@ -10,7 +10,7 @@ use Rattle.tree.specs.declared.nodes.Levels.{Levels}
 use Rattle.tree.specs.Lists.{ordered}
 use Rattle.tree.specs.Levels.{fetchedAt}
 use Rattle.tree.specs.Times.{Time, nodeTime}
-use Rattle.tree.specs.Walks.{Answer, found, stopped, accessAnswer, searchAnswer}
+use Rattle.tree.specs.Walks.{Answer, found, stopped, searchAnswer}
 use Rattle.tree.specs.Listing.{accesses, timesFrom}
 use Rattle.strip.specs.declared.strip.Packed.{Packed}
 use Rattle.strip.specs.declared.strip.Packed.the-variants as packing
@@ -34,6 +34,10 @@ use Rattle.strip.specs.Opening.{opening}
 -- 4, of pack with the bytes needed, of unpack with the entries
 abbrev pub roomTest : ℕ → ℕ → Test
 roomTest room needed = test (ltb room needed) 4 needed
+
+-- what is needed, where there is room for it
+abbrev pub roomFor : ℕ → ℕ → Outcome ℕ
+roomFor room needed = verdict (roomTest room needed ∷ []) needed
 
 -- order 1, 2, 3, 4
 abbrev pub packTests : List ℕ → ℕ → List Test
@@ -70,7 +74,7 @@ timesIn levels s = nodeTime (fetchedAt levels s)
 
 -- 14, then fetches from the root to rank i
 abbrev pub accessIn : List ℕ → ℕ → Levels → Answer
-accessIn s i levels = cond (ltb i (levels .pins)) (accessAnswer (levels .pins) (timesIn levels s) i) (stopped 14 0)
+accessIn s i levels = cond (ltb i (levels .pins)) (accesses levels s i) (stopped 14 0)
 
 -- access i, which opens first
 unfoldable pub accessOf : List ℕ → ℕ → Answer
@@ -147,17 +151,18 @@ checkIn s levels = verdict (checkTests s levels) (levels .pins)
 unfoldable pub checkOf : List ℕ → Outcome ℕ
 checkOf s = after (opening s) (checkIn s)
 
--- the list of a strip that opens, which is the plain list of an accepted one
+-- the list of a strip that opens
 abbrev pub listAfter : Outcome Levels → List ℕ → List ℕ
 listAfter (gives levels) s = listIn s levels
 listAfter (refuses r c) s = []
 
+-- the plain list of an accepted strip
 unfoldable pub plainList : List ℕ → List ℕ
 plainList s = listAfter (opening s) s
 
 -- check, then 4; gives n
 unfoldable pub unpackOf : List ℕ → ℕ → Outcome ℕ
-unpackOf s room = after (checkOf s) (λ n. verdict (roomTest room n ∷ []) n)
+unpackOf s room = after (checkOf s) (roomFor room)
 
 -- the output after unpack: the first n entries are the list, later ones as they were
 unfoldable pub unpackOutput : List ℕ → List ℕ → List ℕ
@@ -175,7 +180,7 @@ abbrev pub nearAt : (ℕ → ℕ) → ℕ → ℕ → Bool
 nearAt time r zero = false
 nearAt time r (suc i) = ltb (time (suc i) - time i) r
 
--- at each of k positions from i on access's refusal, then 11, then the test of r; gives the first position that passes it, or none
+-- at each of k positions from i on: access's refusal, then 11, then the test of r, whose first position is given; or none
 unfoldable pub repeatFrom : (ℕ → Answer) → ℕ → ℕ → ℕ → Outcome (Option ℕ)
 repeatFrom answer r zero i = gives none
 repeatFrom answer r (suc k) i =

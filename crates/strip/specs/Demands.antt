@@ -5,31 +5,42 @@ use mathlib.Core.Logic.{_↔_}
 use mathlib.Core.List.{List, _++_}
 use Prim.Native.Nat.{ℕ, _≤_}
 use lib.ListN.{length, drop}
-use Rattle.codes.specs.Codes.{Within}
+use Rattle.codes.specs.Codes.{kindOf, Within, Holds}
+use Rattle.codes.specs.Choice.{size}
 use Rattle.tree.specs.declared.nodes.Levels.{Levels}
+use Rattle.tree.specs.Shape.{height}
 use Rattle.tree.specs.Lists.{smaller}
+use Rattle.tree.specs.Stored.{storedValues}
+use Rattle.tree.specs.Levels.{codeOf, levelValues, Stores}
 use Rattle.tree.specs.Walks.{found, path}
 use Rattle.strip.specs.declared.strip.Checked.{Checked}
 use Rattle.strip.specs.declared.strip.Checked.the-variants.{Pins, Refused}
 use Rattle.strip.specs.Outcomes.{gives}
 use Rattle.strip.specs.Image.{image}
+use Rattle.strip.specs.Opening.{opening}
 use Rattle.strip.specs.Calls.{packAnswer, packOutput, searchOf, checkOf, checked, plainList, unpackOf, unpackOutput}
-use Rattle.strip.specs.Promises.{Packable, Opens}
+use Rattle.strip.specs.Promises.{Packable}
 
--- A list packs to a strip: given an output long enough, and whatever that holds, pack gives the strip's length and leaves the strip
--- at the front, with the later bytes as they were.
-abbrev pub PacksTo : List ℕ → List ℕ → Type 0
-PacksTo xs s = (out : List ℕ) → length s ≤ length out → (packAnswer xs (length out) ≡ gives (length s)) × (packOutput xs out ≡ s ++ drop (length s) out)
+-- A list packs to a strip in an output: pack gives the strip's length and leaves the strip at the front, with the later bytes as they were.
+abbrev pub PacksTo : List ℕ → List ℕ → List ℕ → Type 0
+PacksTo xs s out = (packAnswer xs (length out) ≡ gives (length s)) × (packOutput xs out ≡ s ++ drop (length s) out)
 
 -- a strip unpacks to a list, in the same way
-abbrev pub UnpacksTo : List ℕ → List ℕ → Type 0
-UnpacksTo s xs = (out : List ℕ) → length xs ≤ length out → (unpackOf s (length out) ≡ gives (length xs)) × (unpackOutput s out ≡ xs ++ drop (length xs) out)
+abbrev pub UnpacksTo : List ℕ → List ℕ → List ℕ → Type 0
+UnpacksTo s xs out = (unpackOf s (length out) ≡ gives (length xs)) × (unpackOutput s out ≡ xs ++ drop (length xs) out)
 
--- a strip is accepted when some list of 32-bit times packs to it
+-- Each level of a strip holds what the list's tree stores on it, in the code with fewest bits among all that can hold it.
+pub record FewestBits (xs s : List ℕ) (levels : Levels) : Type 0 where
+  pub opened : opening s ≡ gives levels
+  pub stores : Stores levels s xs
+  pub fewest : (l code : ℕ) → 1 ≤ l → l ≤ height (length xs) → Holds (kindOf code) (levelValues (storedValues xs) l)
+      → size (codeOf levels l) (levelValues (storedValues xs) l) ≤ size code (levelValues (storedValues xs) l)
+
+-- a strip is accepted when some list of 32-bit times packs to it, in some output
 abbrev pub Accepted : List ℕ → Type 0
-Accepted s = (xs : List ℕ) × Within 32 xs × PacksTo xs s
+Accepted s = (xs : List ℕ) × Within 32 xs × ((out : List ℕ) × PacksTo xs s out)
 
--- check accepts, by its definition and by the code's answer
+-- check accepts a strip by its definition, and by an answer of the code
 abbrev pub CheckAccepts : List ℕ → Type 0
 CheckAccepts s = (n : ℕ) × (checkOf s ≡ gives n)
 
@@ -38,17 +49,20 @@ CodeAccepts (Pins n) = Unit {0}
 CodeAccepts (Refused r) = ⊥
 
 pub record Demand2 : Type 0 where
-  -- every ordered list of 1 to 65,535 times packs, given room, to a strip, and to no other
-  pub packs : (xs : List ℕ) → Packable xs → PacksTo xs (image xs)
-  pub one-strip : (xs s : List ℕ) → PacksTo xs s → s ≡ image xs
-  -- each level of it holds what the list's tree stores, in the code with fewest bits
-  pub fewest-bits : (xs : List ℕ) → Packable xs → (levels : Levels) × Opens xs levels
-  -- and it unpacks to the list
-  pub unpacks : (xs : List ℕ) → Packable xs → UnpacksTo (image xs) xs
-  -- check accepts a strip exactly when some list packs to it, for the definition and for the code, whose answer is the definition's
+  -- every ordered list of 1 to 65,535 times packs, given an output long enough, and whatever that holds
+  pub packs : (xs : List ℕ) → Packable xs → (out : List ℕ) → length (image xs) ≤ length out → PacksTo xs (image xs) out
+  -- to one strip, which does not depend on the output
+  pub one-strip : (xs s out : List ℕ) → PacksTo xs s out → s ≡ image xs
+  -- with every level in the code with fewest bits
+  pub fewest-bits : (xs : List ℕ) → Packable xs → (levels : Levels) × FewestBits xs (image xs) levels
+  -- and that strip unpacks to the list
+  pub unpacks : (xs : List ℕ) → Packable xs → (out : List ℕ) → length xs ≤ length out → UnpacksTo (image xs) xs out
+  -- check accepts a strip exactly when some list packs to it, and gives its pin count
   pub accepts : (s : List ℕ) → CheckAccepts s ↔ Accepted s
+  pub pin-count : (s : List ℕ) → Accepted s → checkOf s ≡ gives (length (plainList s))
+  -- and so does the code: any answer that meets the contract of `Strip::check`
   pub code-accepts : (s : List ℕ) (r : Checked) → checked r ≡ checkOf s → CodeAccepts r ↔ Accepted s
   -- that list is an ordered one of 1 to 65,535 times, and the only one: the strip's plain list
-  pub one-list : (s xs : List ℕ) → Within 32 xs → PacksTo xs s → Packable xs × (xs ≡ plainList s)
+  pub one-list : (s xs out : List ℕ) → Within 32 xs → PacksTo xs s out → Packable xs × (xs ≡ plainList s)
   -- on an accepted strip no search is refused, and search gives the number of strikes earlier than its target
   pub searches : (s : List ℕ) → Accepted s → (t : ℕ) → searchOf s t ≡ found (smaller t (plainList s)) (length (path (plainList s) t))

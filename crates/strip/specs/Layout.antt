@@ -12,7 +12,7 @@ maxPins = 65535
 abbrev pub maxHeight : ℕ
 maxHeight = 16
 
--- a number of bytes that is enough for any strip, by `RoomEnough` in Promises
+-- a number of bytes that is enough for any strip: `RoomEnough` in Promises
 abbrev pub maxBytes : ℕ
 maxBytes = 7 + 5 * maxHeight + 4 * maxPins
 

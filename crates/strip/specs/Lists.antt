@@ -4,15 +4,11 @@ use mathlib.Core.List.{List, [], _∷_}
 use Prim.Native.Nat.{ℕ, suc, _+_}
 use lib.Dec.{ltb, leb}
 
--- the first position with a time that is not r or more after the one before, or the length
-unfoldable pub firstNear : ℕ → List ℕ → ℕ
-firstNear r [] = 0
-firstNear r (x ∷ []) = 1
-firstNear r (x ∷ y ∷ ys) = cond (ltb y (x + r)) 1 (suc (firstNear r (y ∷ ys)))
-
 -- the first position with a lower time than the one before, or the length where the list is ordered
-abbrev pub firstLower : List ℕ → ℕ
-firstLower xs = firstNear 0 xs
+unfoldable pub firstLower : List ℕ → ℕ
+firstLower [] = 0
+firstLower (x ∷ []) = 1
+firstLower (x ∷ y ∷ ys) = cond (ltb y x) 1 (suc (firstLower (y ∷ ys)))
 
 -- the number of times at or before t
 unfoldable pub upTo : ℕ → List ℕ → ℕ

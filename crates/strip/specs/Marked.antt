@@ -19,7 +19,7 @@ use Rattle.tree.specs.Levels.{partOf, fetchedAt}
 use Rattle.tree.specs.Times.{nodeTimeIn, nodeTime}
 use Rattle.tree.specs.Walks.{walkIn, walk, Answer, found, stopped, met, toward, lastOf, accessAnswer, lastLeft, searchAnswer}
 use Rattle.tree.specs.Listing.{timesFrom}
-use Rattle.strip.specs.Lists.{firstNear}
+use Rattle.strip.specs.Lists.{firstLower}
 use Rattle.strip.specs.Outcomes.{Outcome, gives, refuses, verdict}
 use Rattle.strip.specs.Layout.{maxPins, maxHeight, header, entry, endAfter, filled, laidOut}
 use Rattle.strip.specs.Image.{codeFor, partFor, joined, stripOf, image}
@@ -46,7 +46,7 @@ low = header 2 ++ entry 0 0 ++ entry 1 1 ++ (0x80 ∷ [])
 abbrev fallen : List ℕ
 fallen = header 5 ++ entry 9 2 ++ entry 10 3 ++ entry 8 2 ++ (0xc8 ∷ 0x00 ∷ 0x25 ∷ 0xa5 ∷ 0x80 ∷ 150 ∷ 151 ∷ [])
 
--- n = 1: the list 0, in a code with a bit more than is needed
+-- n = 1: the list 0 in code 65, which takes two bits where none is needed
 abbrev wasteful : List ℕ
 wasteful = header 1 ++ entry 65 1 ++ (0x00 ∷ [])
 
@@ -153,6 +153,6 @@ all (c ∷ cs) = passes c && all cs
 pub marked-pass : all marked ≡ true
 unfolding bits number sum fixed bytesOf padded kindOf rest layers kindBits widthIn widest bestChunked chosen fixedAt fetchLayers chunkedAt fetched height
     rootPlace childOf stretchIn stretch rank ordered timeOf timeAbove stored storedFrom partOf fetchedAt nodeTimeIn nodeTime walkIn walk met toward lastOf
-    accessAnswer lastLeft searchAnswer firstNear verdict endAfter filled laidOut codeFor partFor joined stripOf codeTests opening packAnswer packOutput
+    accessAnswer lastLeft searchAnswer firstLower verdict endAfter filled laidOut codeFor partFor joined stripOf codeTests opening packAnswer packOutput
     accessOf searchOf upToOf timesFrom positionsTests listIn checkOf plainList unpackOf unpackOutput repeatFrom repeatOf
 marked-pass = refl

@@ -1,11 +1,11 @@
--- What is shown of strips besides each call's contract. proofs/Promises proves each, as `packs-once`,
--- `room-enough`, `image-opens` and `round-trip`.
+-- What is shown of strips besides each call's contract and the demands. proofs/Promises proves each, as `room-enough`, `image-opens` and
+-- `round-trip`.
 use mathlib.Core.Path.{_≡_}
 use mathlib.Core.Bool.{cond}
-use mathlib.Core.List.{List, _++_}
+use mathlib.Core.List.{List}
 use Prim.Native.Nat.{ℕ, suc, _+_, _-_, _*_, _^_, _≤_, _<_}
 use lib.Dec.{T, eqb}
-use lib.ListN.{length, drop, getD}
+use lib.ListN.{length, getD}
 use Rattle.codes.specs.Codes.{kindOf, Within, Holds}
 use Rattle.codes.specs.Choice.{size}
 use Rattle.tree.specs.declared.nodes.Levels.{Levels}
@@ -17,10 +17,10 @@ use Rattle.tree.specs.Walks.{found, toward, searchNodes, path}
 use Rattle.tree.specs.Promises.{Held}
 use Rattle.strip.specs.Lists.{upTo}
 use Rattle.strip.specs.Outcomes.{gives}
-use Rattle.strip.specs.Layout.{maxPins, partsStart}
+use Rattle.strip.specs.Layout.{maxPins, maxBytes, partsStart}
 use Rattle.strip.specs.Image.{image}
 use Rattle.strip.specs.Opening.{opening}
-use Rattle.strip.specs.Calls.{packAnswer, packOutput, timesIn, accessOf, searchOf, upToOf}
+use Rattle.strip.specs.Calls.{timesIn, accessOf, searchOf, upToOf}
 
 -- 1 to 65,535 times of 32 bits, none less than the one before
 pub record Packable (xs : List ℕ) : Type 0 where
@@ -29,18 +29,9 @@ pub record Packable (xs : List ℕ) : Type 0 where
   pub times : Within 32 xs
   pub in-order : T (ordered xs)
 
--- 1. Given room, such a list packs, and to one and the same strip for every call: its image, whatever the output held and however
--- long it is.
-pub record Packs (xs out : List ℕ) : Type 0 where
-  pub answer : packAnswer xs (length out) ≡ gives (length (image xs))
-  pub output : packOutput xs out ≡ image xs ++ drop (length (image xs)) out
-
-abbrev pub PacksOnce : Type 0
-PacksOnce = (xs out : List ℕ) → Packable xs → length (image xs) ≤ length out → Packs xs out
-
--- Room for 4 bytes a pin after the level entries is always enough, so 262,227 bytes for any list.
+-- 1. Room for 4 bytes a pin after the level entries is always enough, so 262,227 bytes for any list.
 abbrev pub RoomEnough : Type 0
-RoomEnough = (xs : List ℕ) → Packable xs → length (image xs) ≤ partsStart (length xs) + 4 * length xs
+RoomEnough = (xs : List ℕ) → Packable xs → (length (image xs) ≤ partsStart (length xs) + 4 * length xs) × (length (image xs) ≤ maxBytes)
 
 -- 2. Opening the image succeeds. Its levels hold what the list's tree stores, each in the code with fewest bits among all that can
 -- hold it; among those with as many bits it has the least number, so a fixed code goes first, then the smaller b. The nodes that a

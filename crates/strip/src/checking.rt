@@ -22,6 +22,7 @@ ghost use Rattle.tree.specs.Buffers.{replaced};
 ghost use Rattle.strip.specs.Outcomes.{test, verdict};
 ghost use Rattle.strip.specs.Image.{image};
 ghost use Rattle.strip.specs.Calls.{written, listIn, checkIn, checked};
+ghost use Rattle.strip.specs.Written.{packedInto};
 ghost use Rattle.strip.specs.Read.{fallsTest, unpackIn};
 
 // Whether two runs of bytes are the same.
@@ -98,6 +99,19 @@ pub(crate) fn check_open(times: &mut [u32], s: &[u8], levels: Levels) -> Checked
     }
 }
 
+// Writes the list to the front of the output, where there is room.
+fn put_list(out: &mut [u32], times: &[u32]) -> Checked
+    ensures { λ r. ⌜ checked r ≡ packedInto (length (now (out .entry))) (now (times .entry)) ⌝ }
+    ensures { λ r. ⌜ now (out .exit) ≡ written (packedInto (length (now (out .entry))) (now (times .entry))) (now (times .entry)) (now (out .entry)) ⌝ }
+{
+    let n = times.len();
+    if out.len() < n {
+        return Checked::Refused(Refusal::Short(n));
+    }
+    codes::copy_values(out, times);
+    Checked::Pins(n)
+}
+
 // Unpacks a strip that is open.
 pub(crate) fn unpack_open(out: &mut [u32], s: &[u8], levels: Levels) -> Checked
     requires { ⌜ Fits levels (now s) ⌝ }
@@ -107,13 +121,7 @@ pub(crate) fn unpack_open(out: &mut [u32], s: &[u8], levels: Levels) -> Checked
     let mut times = [0u32; Strip::MAX_PINS];
     let result = check_open(&mut times, s, levels);
     match result {
-        Checked::Pins(n) => {
-            if out.len() < n {
-                return Checked::Refused(Refusal::Short(n));
-            }
-            codes::copy_values(out, &times[..n]);
-            Checked::Pins(n)
-        }
+        Checked::Pins(n) => put_list(out, &times[..n]),
         Checked::Refused(r) => Checked::Refused(r),
     }
 }

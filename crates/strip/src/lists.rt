@@ -2,16 +2,17 @@
 ghost use mathlib.Core.Path.{_≡_};
 ghost use Prim.Native.Nat.{_+_};
 ghost use lib.Dec.{ltb};
-ghost use Rattle.strip.specs.Lists.{firstNear, firstLower};
+ghost use Rattle.strip.specs.Lists.{firstLower};
+ghost use Rattle.strip.specs.Read.{firstNear};
 
-// Whether a time is not r or more after the one before.
+// Whether a time is before the one before it plus r.
 fn is_near(before: u32, time: u32, r: u32) -> bool
     ensures { λ x. ⌜ x ≡ ltb time (before + r) ⌝ }
 {
     (time as u64) < before as u64 + r as u64
 }
 
-// The first position with a time that is not r or more after the one before, or the length.
+// The first position with a time before the one before it plus r, or the length.
 pub(crate) fn first_near(times: &[u32], r: u32) -> usize
     ensures { λ x. ⌜ x ≡ firstNear r (now (times .entry)) ⌝ }
 {

@@ -3,6 +3,7 @@ ghost use mathlib.Core.Path.{_≡_};
 ghost use lib.ListN.{length};
 ghost use Rattle.tree.specs.Shape.{height, rootPlace};
 ghost use Rattle.strip.specs.Calls.{packAnswer, packOutput, accessOf, searchOf, searched, upToOf, checkOf, checked, unpackOf, unpackOutput, repeatOf};
+ghost use Rattle.strip.specs.Refusals.{refusalNumber, carried};
 ghost use Rattle.strip_c.specs.Numbers.{ofRefusal, ofWalk, ofOutcome, ofRepeat};
 use strip::Accessed;
 use strip::Checked;
@@ -30,12 +31,56 @@ fn given(value: usize, nodes: usize) -> Answer
     }
 }
 
+// 01's number for a refusal.
+fn number(r: Refusal) -> usize
+    ensures { λ x. ⌜ x ≡ refusalNumber r ⌝ }
+{
+    match r {
+        Refusal::Empty => 1,
+        Refusal::TooMany => 2,
+        Refusal::ListFalls(_) => 3,
+        Refusal::Short(_) => 4,
+        Refusal::Cut => 5,
+        Refusal::Mark => 6,
+        Refusal::Version => 7,
+        Refusal::Code(_) => 8,
+        Refusal::Fetch(_) => 9,
+        Refusal::Time(_) => 10,
+        Refusal::TimesFall(_) => 11,
+        Refusal::Image => 12,
+        Refusal::Length => 13,
+        Refusal::Position => 14,
+    }
+}
+
+// What a refusal carries.
+fn carried(r: Refusal) -> usize
+    ensures { λ x. ⌜ x ≡ carried r ⌝ }
+{
+    match r {
+        Refusal::Empty => 0,
+        Refusal::TooMany => 0,
+        Refusal::ListFalls(i) => i,
+        Refusal::Short(needed) => needed,
+        Refusal::Cut => 0,
+        Refusal::Mark => 0,
+        Refusal::Version => 0,
+        Refusal::Code(level) => level,
+        Refusal::Fetch(node) => node,
+        Refusal::Time(node) => node,
+        Refusal::TimesFall(i) => i,
+        Refusal::Image => 0,
+        Refusal::Length => 0,
+        Refusal::Position => 0,
+    }
+}
+
 fn refused(r: Refusal) -> Answer
     ensures { λ x. ⌜ x ≡ ofRefusal r ⌝ }
 {
     Answer {
-        refusal: r.number(),
-        value: r.carried(),
+        refusal: number(r),
+        value: carried(r),
         nodes: 0,
     }
 }

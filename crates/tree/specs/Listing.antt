@@ -31,7 +31,7 @@ abbrev pub stopOr : ℕ → Answer → Stop → Stop
 stopOr i (found t k) later = later
 stopOr i (stopped r c) later = at i r c
 
--- the first of these positions at which it is
+-- the first of these positions at which access is refused
 unfoldable pub stopFrom : (ℕ → Answer) → ℕ → ℕ → Stop
 stopFrom answer zero i = nowhere
 stopFrom answer (suc k) i = stopOr i (answer i) (stopFrom answer k (suc i))

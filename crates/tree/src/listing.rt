@@ -19,9 +19,9 @@ pub enum Listed {
     Refused(usize, Refusal),
 }
 
-// Lists the stretch of `pins` from `start` on, under node v with `depth` levels and the time `above` above it. The left side comes
-// before the node and the right side after it; so the nodes are opened in the order in which accesses to one position after
-// the other first come to them.
+// Lists the stretch of `pins` from `start` on, under node v with `depth` levels and the time `above` above it. The node is opened,
+// its left side listed, its time written, its right side listed; so nodes are opened in the order in which accesses to one position
+// after the other first come to them.
 fn list_under(
     times: &mut [u32],
     s: &[u8],

@@ -384,11 +384,11 @@ pub fn unpack(out: &mut [u32], strip: &[u8]) -> Result<usize, Refusal> {
 }
 
 /// Gives the first position, from 1 on, whose time is less than `r` milliseconds after the one
-/// before, or none. So it answers on strips that no list packs to as well.
+/// before, or none. It answers on strips that no list packs to as well.
 ///
 /// Refused as in [opening](crate#opening), then in
 /// [reading all positions](crate#reading-all-positions) up to the one given: a position's
-/// refusals come before its gap, and those of later positions are not looked for.
+/// refusals come before its gap, and those of later positions are not told.
 #[inline]
 pub fn repeat(strip: &[u8], r: u32) -> Result<Option<usize>, Refusal> {
     // SAFETY: the pointer and length are a slice's, so not null.

@@ -27,11 +27,11 @@ put-number-requires c κs = omega arith
 loop-holds : tie.Need-loop-holds Inv-loop μ-loop
 loop-holds c = omega arith
 
-slice-aggregate-written : tie.Need-slice-aggregate-written Inv-loop μ-loop
-slice-aggregate-written c = omega arith
+slice-aggregate-flushed : tie.Need-slice-aggregate-flushed Inv-loop μ-loop
+slice-aggregate-flushed c = omega arith
 
-written-requires : tie.Need-written-requires Inv-loop μ-loop
-written-requires c κs = omega arith
+flushed-requires : tie.Need-flushed-requires Inv-loop μ-loop
+flushed-requires c κs = omega arith
 
 slice-aggregate-put-time : tie.Need-slice-aggregate-put-time Inv-loop μ-loop
 slice-aggregate-put-time c = omega arith
@@ -71,8 +71,8 @@ list-times-spec =
     slice-aggregate-put-number
     put-number-requires
     loop-holds
-    slice-aggregate-written
-    written-requires
+    slice-aggregate-flushed
+    flushed-requires
     slice-aggregate-put-time
     put-time-requires
     add-i

@@ -14,12 +14,6 @@ write-all-requires c κs = search needs
 slice-aggregate-put-line : tie.Need-slice-aggregate-put-line
 slice-aggregate-put-line c = search needs
 
-number-requires : tie.Need-number-requires
-number-requires c κs = search needs
-
-carried-requires : tie.Need-carried-requires
-carried-requires c κs = search needs
-
 put-line-requires : tie.Need-put-line-requires
 put-line-requires c κs = search needs
 
@@ -42,8 +36,6 @@ print-refusal-spec =
     slice-aggregate-write-all
     write-all-requires
     slice-aggregate-put-line
-    number-requires
-    carried-requires
     put-line-requires
     array-share-prefix-text
     slice-aggregate-write-all-2

@@ -2,7 +2,7 @@
 use native.Mathlib.Omega.{arith}
 use mathlib.Core.Path.{sym, ap, _∙_}
 use Rattle.strip.specs.Calls.{checked}
-use Rattle.strip.proofs.Checks.{pins-few, list-front, accepted-count, unpack-short, unpack-whole, unpack-refused}
+use Rattle.strip.proofs.Checks.{pins-few, list-front, accepted-count, unpack-refused, unpack-listed}
 use borrow.Author.Needs.{needs}
 use Rattle.strip.proofs.checking.unpack_open.Statement.{statement}
 use Rattle.strip.proofs.checking.unpack_open.Tie as tie
@@ -16,30 +16,20 @@ check-open-requires c κs = (c .before .before .before .pre, omega (arith, pins-
 enum-known-result : tie.Need-enum-known-result
 enum-known-result c = search needs
 
-returns : tie.Need-returns
-returns c =
-    let a = c .before .before .before .before .before .before .before .before .before .args in
-    let e = sym (ap checked (c .before .before .result .given .1)) ∙ c .before .before .before .before .before .check-open .ensures .0 in
-    unpack-short (a .s .now) (a .levels) (a .out .now) _ e (omega arith)
-
 array-share-prefix-times : tie.Need-array-share-prefix-times
 array-share-prefix-times c =
+    let a = c .before .before .before .before .before .before .before .before .before .args in
+    let e = sym (ap checked (c .before .before .result .given .1)) ∙ c .before .before .before .before .before .check-open .ensures .0 in
+    list-front (a .levels) (a .s .now) _ _ (c .before .before .before .before .before .check-open .last .0) (accepted-count (a .s .now) (a .levels) _ e) (c .before .before .before .before .before .check-open .ensures .1) .room
+
+slice-aggregate-put-list : tie.Need-slice-aggregate-put-list
+slice-aggregate-put-list c =
     let a = c .before .before .before .before .before .before .before .before .before .before .args in
     let e = sym (ap checked (c .before .before .before .result .given .1)) ∙ c .before .before .before .before .before .before .check-open .ensures .0 in
-    list-front (a .levels) (a .s .now) _ _ (c .before .before .before .before .before .before .check-open .last .0) (accepted-count (a .s .now) (a .levels) _ e) (c .before .before .before .before .before .before .check-open .ensures .1) .room
+    list-front (a .levels) (a .s .now) _ _ (c .before .before .before .before .before .before .check-open .last .0) (accepted-count (a .s .now) (a .levels) _ e) (c .before .before .before .before .before .before .check-open .ensures .1) .count
 
-slice-aggregate-copy-values : tie.Need-slice-aggregate-copy-values
-slice-aggregate-copy-values c =
-    let a = c .before .before .before .before .before .before .before .before .before .before .before .args in
-    let e = sym (ap checked (c .before .before .before .before .result .given .1)) ∙ c .before .before .before .before .before .before .before .check-open .ensures .0 in
-    list-front (a .levels) (a .s .now) _ _ (c .before .before .before .before .before .before .before .check-open .last .0) (accepted-count (a .s .now) (a .levels) _ e) (c .before .before .before .before .before .before .before .check-open .ensures .1) .count
-
-copy-values-requires : tie.Need-copy-values-requires
-copy-values-requires c κs =
-    let a = c .before .before .before .before .before .before .before .before .before .before .before .args in
-    let e = sym (ap checked (c .before .before .before .before .result .given .1)) ∙ c .before .before .before .before .before .before .before .check-open .ensures .0 in
-    let f = list-front (a .levels) (a .s .now) _ _ (c .before .before .before .before .before .before .before .check-open .last .0) (accepted-count (a .s .now) (a .levels) _ e) (c .before .before .before .before .before .before .before .check-open .ensures .1) in
-    omega (arith, f .count)
+put-list-requires : tie.Need-put-list-requires
+put-list-requires c κs = search needs
 
 enum-known-result-2 : tie.Need-enum-known-result-2
 enum-known-result-2 c = search needs
@@ -47,15 +37,15 @@ enum-known-result-2 c = search needs
 same-length : tie.Need-same-length
 same-length c = search needs
 
+returns : tie.Need-returns
+returns c =
+    let a = c .before .before .before .before .before .before .before .before .before .before .before .before .before .args in
+    let e = sym (ap checked (c .before .before .before .before .before .before .result .given .1)) ∙ c .before .before .before .before .before .before .before .before .before .check-open .ensures .0 in
+    let f = list-front (a .levels) (a .s .now) _ _ (c .before .before .before .before .before .before .before .before .before .check-open .last .0) (accepted-count (a .s .now) (a .levels) _ e) (c .before .before .before .before .before .before .before .before .before .check-open .ensures .1) in
+    unpack-listed (a .s .now) (a .levels) (a .out .now) _ _ e (f .is) _ (c .before .before .put-list .last .0) (c .before .before .put-list .ensures .0) (c .before .before .put-list .ensures .1)
+
 returns-2 : tie.Need-returns-2
 returns-2 c =
-    let a = c .before .before .before .before .before .before .before .before .before .before .before .before .before .before .args in
-    let e = sym (ap checked (c .before .before .before .before .before .before .before .result .given .1)) ∙ c .before .before .before .before .before .before .before .before .before .before .check-open .ensures .0 in
-    let f = list-front (a .levels) (a .s .now) _ _ (c .before .before .before .before .before .before .before .before .before .before .check-open .last .0) (accepted-count (a .s .now) (a .levels) _ e) (c .before .before .before .before .before .before .before .before .before .before .check-open .ensures .1) in
-    unpack-whole (a .s .now) (a .levels) (a .out .now) _ _ (c .before .before .copy-values .last .0) e (omega arith) (f .is) (c .before .before .copy-values .ensures)
-
-returns-3 : tie.Need-returns-3
-returns-3 c =
     let a = c .before .before .before .before .before .before .before .before .args in
     unpack-refused (a .s .now) (a .levels) (a .out .now) _ _ (sym (ap checked (c .before .result2 .given .1)) ∙ c .before .before .before .before .check-open .ensures .0)
 
@@ -66,11 +56,10 @@ unpack-open-spec =
     slice-aggregate-check-open
     check-open-requires
     enum-known-result
-    returns
     array-share-prefix-times
-    slice-aggregate-copy-values
-    copy-values-requires
+    slice-aggregate-put-list
+    put-list-requires
     enum-known-result-2
     same-length
-    returns-2
-    returns-3)
+    returns
+    returns-2)

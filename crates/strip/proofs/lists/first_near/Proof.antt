@@ -4,7 +4,7 @@ use mathlib.Core.Path.{_≡_, sym, _∙_}
 use Prim.Native.Nat.{suc, _+_, _-_, _≤_, _<_, max}
 use lib.ListN.{drop, getD}
 use borrow.Author.Tests.{ltb-true, ltb-false}
-use Rattle.strip.specs.Lists.{firstNear}
+use Rattle.strip.specs.Read.{firstNear}
 use Rattle.strip.proofs.Gaps.{gap-here, gap-later, gap-end}
 use Rattle.strip.proofs.lists.first_near.Statement.{statement}
 use Rattle.strip.proofs.lists.first_near.Tie as tie

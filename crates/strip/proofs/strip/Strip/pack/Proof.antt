@@ -7,7 +7,7 @@ use Rattle.strip.specs.Lists.{firstLower}
 use Rattle.strip.specs.Outcomes.{verdict}
 use Rattle.strip.specs.Layout.{maxPins}
 use Rattle.strip.specs.Calls.{packAnswer, packOutput}
-use Rattle.strip.proofs.Gaps.{ordered-lower}
+use Rattle.strip.proofs.Gaps.{not-ordered, is-ordered}
 use borrow.Author.Needs.{needs}
 use Rattle.strip.proofs.strip.Strip.pack.Statement.{statement}
 use Rattle.strip.proofs.strip.Strip.pack.Tie as tie
@@ -31,12 +31,12 @@ returns-3 : tie.Need-returns-3
 unfolding packAnswer packOutput verdict
 returns-3 c =
     let xs = c .before .before .before .before .before .before .args .times .now in
-    rw (ne-eqb (length xs) 0 (λ e. omega arith), le-ltb maxPins (length xs) (omega arith), ordered-lower xs, lt-leb (length xs) (firstLower xs) (omega (arith, c .before .first-lower .ensures)), c .before .first-lower .ensures) (refl, refl)
+    rw (ne-eqb (length xs) 0 (λ e. omega arith), le-ltb maxPins (length xs) (omega arith), not-ordered xs (omega (arith, c .before .first-lower .ensures)), c .before .first-lower .ensures) (refl, refl)
 
 pack-list-requires : tie.Need-pack-list-requires
 pack-list-requires c κs =
     let xs = c .before .before .before .before .before .before .before .args .times .now in
-    (rw (ordered-lower xs, le-leb (length xs) (firstLower xs) (omega (arith, c .before .before .first-lower .ensures))) tt, omega arith)
+    (rw (is-ordered xs (omega (arith, c .before .before .first-lower .ensures))) tt, omega arith)
 
 same-length : tie.Need-same-length
 same-length c = search needs
@@ -45,7 +45,7 @@ returns-4 : tie.Need-returns-4
 unfolding packAnswer packOutput verdict
 returns-4 c =
     let xs = c .before .before .before .before .before .before .before .before .before .before .args .times .now in
-    rw (ne-eqb (length xs) 0 (λ e. omega arith), le-ltb maxPins (length xs) (omega arith), ordered-lower xs, le-leb (length xs) (firstLower xs) (omega (arith, c .before .before .before .before .before .first-lower .ensures)))
+    rw (ne-eqb (length xs) 0 (λ e. omega arith), le-ltb maxPins (length xs) (omega arith), is-ordered xs (omega (arith, c .before .before .before .before .before .first-lower .ensures)))
     (c .before .before .pack-list .ensures)
 
 pub pack-spec : {M : Type 1} → statement M

@@ -1,9 +1,9 @@
--- `written` meets its contract.
+-- `flushed` meets its contract.
 use native.Mathlib.Omega.{arith}
 use lib.ListN.{length-take}
 use borrow.Author.Needs.{needs}
-use Rattle.pinlist.proofs.written.Statement.{statement}
-use Rattle.pinlist.proofs.written.Tie as tie
+use Rattle.pinlist.proofs.flushed.Statement.{statement}
+use Rattle.pinlist.proofs.flushed.Tie as tie
 
 slice-aggregate-write-all : tie.Need-slice-aggregate-write-all
 slice-aggregate-write-all c = simp length-take (omega arith)
@@ -17,5 +17,5 @@ returns c = search needs
 returns-2 : tie.Need-returns-2
 returns-2 c = search needs
 
-pub written-spec : {M : Type 1} → statement M
-written-spec = tie.close (tie.spec slice-aggregate-write-all write-all-requires returns returns-2)
+pub flushed-spec : {M : Type 1} → statement M
+flushed-spec = tie.close (tie.spec slice-aggregate-write-all write-all-requires returns returns-2)
