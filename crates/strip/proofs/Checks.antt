@@ -7,7 +7,7 @@ use native.Mathlib.Omega.{arith}
 use lib.ListN.{length, take, drop, length-append}
 use lib.Pow.{pow-mono}
 use lib.Seq.{take-at}
-use borrow.Author.Tests.{lt-ltb, le-ltb}
+use borrow.Author.Tests.{le-ltb}
 use Rattle.codes.specs.Lists.{same}
 use Rattle.codes.specs.Codes.{Within}
 use Rattle.tree.specs.declared.nodes.Levels.{Levels}

@@ -1,29 +1,28 @@
 -- The promises of specs/Promises.
-use mathlib.Core.Path.{_≡_, refl, sym, ap, _∙_}
+use mathlib.Core.Path.{_≡_, refl, sym, _∙_}
 use mathlib.Core.List.{List}
 use Prim.Native.Nat.{ℕ, suc, _-_, _^_, _≤_, _<_}
 use native.Mathlib.Decide.{decLt}
 use native.Mathlib.Omega.{arith}
 use lib.ListN.{length}
-use borrow.Author.Tests.{lt-ltb, le-ltb, eq-eqb, ne-eqb}
+use borrow.Author.Tests.{lt-ltb, eq-eqb, ne-eqb}
 use Rattle.codes.specs.Codes.{kindOf, part, Within, Holds}
 use Rattle.codes.specs.Choice.{size}
 use Rattle.codes.proofs.Promises.{best-choice}
 use Rattle.tree.specs.Shape.{height}
-use Rattle.tree.specs.Lists.{ordered}
 use Rattle.tree.specs.Stored.{storedValues}
 use Rattle.tree.specs.Levels.{codeOf, partOf, levelValues}
+use Rattle.tree.specs.Listing.{accesses}
 use Rattle.tree.specs.Promises.{Held}
-use Rattle.tree.proofs.Promises.{height-least, stored-levels, contents, search-finds}
-use Rattle.strip.specs.Outcomes.{Outcome, gives, verdict}
-use Rattle.strip.specs.Layout.{maxPins}
+use Rattle.tree.proofs.Promises.{height-least, stored-levels, contents, search-finds, lists}
+use Rattle.strip.specs.Outcomes.{gives}
 use Rattle.strip.specs.Image.{valuesAt, codeFor, partFor, planned, image}
 use Rattle.strip.specs.Opening.{opening}
-use Rattle.strip.specs.Calls.{packAnswer, written, packOutput, accessOf, searchOf, upToOf}
+use Rattle.strip.specs.Calls.{accessOf, searchOf, upToOf, repeatOf}
 use Rattle.strip.specs.Promises.{Packable, RoomEnough, Opens, ImageOpens, ReadsBack, RoundTrip}
 use Rattle.strip.proofs.Counts.{smaller-next, upTo-all}
 use Rattle.strip.proofs.Images.{strip-opens, part-back}
-use Rattle.strip.proofs.Same.{is-true}
+use Rattle.strip.proofs.Readings.{repeat-lists, gap-ordered}
 use Rattle.strip.proofs.Plans.{strip-small, plan-at, plan-pins, level-holds, values-within}
 
 module _ (xs : List ℕ) (p : Packable xs) where
@@ -94,10 +93,12 @@ module _ (xs : List ℕ) (p : Packable xs) where
   pins = held .stores .pins-are
 
   back : ReadsBack xs
-  unfolding accessOf searchOf upToOf
+  unfolding accessOf searchOf upToOf repeatOf
   back = record {
     access = λ i l. rw (opened, lt-ltb i (planned (storedValues xs) .pins) (rw pins l)) (contents .access (planned (storedValues xs)) (image xs) xs held i l);
     search = λ t. rw opened (search-finds .answer (planned (storedValues xs)) (image xs) xs held t);
+    repeat = λ r. rw opened (repeat-lists (accesses (planned (storedValues xs)) (image xs)) r (planned (storedValues xs) .pins)
+        ∙ rw (lists .times (planned (storedValues xs)) (image xs) xs held, lists .stop (planned (storedValues xs)) (image xs) xs held) (gap-ordered r xs (p .in-order)));
     up-to = λ t h. rw opened (elim (decLt t (2 ^ 32 - 1)) [
       | yes l ↦ rw (ne-eqb t (2 ^ 32 - 1) (λ e. omega arith), ← (smaller-next t xs)) (search-finds .answer (planned (storedValues xs)) (image xs) xs held (suc t))
       | no n ↦ rw (eq-eqb t (2 ^ 32 - 1) (omega arith), pins, upTo-all t xs (λ i. omega (arith, p .times i)))

@@ -8,18 +8,18 @@ use native.Mathlib.Nat.{zero-add}
 use native.Mathlib.Numerals.{add-one}
 use native.Mathlib.Decide.{decLt}
 use native.Mathlib.Omega.{arith}
-use lib.Dec.{ltb}
+use lib.Dec.{T, ltb}
 use lib.ListN.{length, getD}
-use borrow.Author.Tests.{lt-ltb, le-ltb, le-leb, lt-leb}
+use borrow.Author.Tests.{lt-ltb, le-ltb}
 use Rattle.tree.specs.declared.nodes.Levels.{Levels}
 use Rattle.tree.specs.Lists.{ordered}
 use Rattle.tree.specs.Walks.{Answer, found, stopped}
 use Rattle.tree.specs.Listing.{Stop, nowhere, at, accesses, timesFrom, stopFrom}
-use Rattle.strip.specs.Lists.{firstLower}
+use Rattle.strip.specs.Lists.{firstLower, gapFrom, firstGap}
 use Rattle.strip.specs.Outcomes.{Outcome, gives, refuses, Test, test, verdict, after}
 use Rattle.strip.specs.Calls.{timeOr0, refusalTest, fallsAt, positionsTests, listIn, imageTest, checkIn, nearAt, repeatFrom}
 use Rattle.strip.specs.Read.{firstNear, fallsTest, gapOr}
-use Rattle.strip.proofs.Gaps.{near-here, near-later, near-one, near-some, lower-near, not-ordered, is-ordered}
+use Rattle.strip.proofs.Gaps.{near-here, near-later, near-one, near-some, lower-near, not-ordered, is-ordered, ordered-rest}
 
 -- what ends a reading after its last position
 abbrev pub ending : Stop → Outcome (Option ℕ)
@@ -29,11 +29,11 @@ ending (at i r c) = refuses r c
 -- ---- repeat
 
 -- position q of a list whose first position is i
-abbrev gapFrom : ℕ → List ℕ → ℕ → Outcome (Option ℕ)
-gapFrom i xs q = cond (ltb (getD xs q 0) (getD xs (q - 1) 0)) (refuses 11 (i + q)) (gives (some (i + q)))
+abbrev gapHere : ℕ → List ℕ → ℕ → Outcome (Option ℕ)
+gapHere i xs q = cond (ltb (getD xs q 0) (getD xs (q - 1) 0)) (refuses 11 (i + q)) (gives (some (i + q)))
 
 abbrev gapsFrom : ℕ → ℕ → List ℕ → Outcome (Option ℕ) → Outcome (Option ℕ)
-gapsFrom r i xs end = cond (ltb (firstNear r xs) (length xs)) (gapFrom i xs (firstNear r xs)) end
+gapsFrom r i xs end = cond (ltb (firstNear r xs) (length xs)) (gapHere i xs (firstNear r xs)) end
 
 module _ (r i x y : ℕ) (ys : List ℕ) (end : Outcome (Option ℕ)) where
   -- the second position is the one
@@ -45,7 +45,7 @@ module _ (r i x y : ℕ) (ys : List ℕ) (end : Outcome (Option ℕ)) where
   gaps-later h = rw (near-later r x y ys h) (go (firstNear r (y ∷ ys)) (near-some r y ys))
     where
       go : (q : ℕ) → 1 ≤ q
-          → cond (ltb (suc q) (suc (suc (length ys)))) (gapFrom i (x ∷ y ∷ ys) (suc q)) end ≡ cond (ltb q (suc (length ys))) (gapFrom (suc i) (y ∷ ys) q) end
+          → cond (ltb (suc q) (suc (suc (length ys)))) (gapHere i (x ∷ y ∷ ys) (suc q)) end ≡ cond (ltb q (suc (length ys))) (gapHere (suc i) (y ∷ ys) q) end
       go zero k = absurd (omega arith)
       go (suc q) k =
           let e : i + suc (suc q) ≡ suc i + suc q = omega arith in
@@ -89,6 +89,21 @@ module _ (answer : ℕ → Answer) (r : ℕ) where
       go : (z : Answer) → answer 0 ≡ z → repeatFrom answer r (suc k) 0 ≡ gapOr r (timesFrom answer (suc k) 0) (ending (stopFrom answer (suc k) 0))
       go (stopped q c) f = rw f
       go (found x l) f = rw f (gaps-from k 0 x l f ∙ rw (zero-add (firstNear r (x ∷ timesFrom answer k 1))))
+
+-- in an ordered list no time is lower
+gaps-ordered : (r i : ℕ) (xs : List ℕ) → T (ordered xs) → gapsFrom r i xs (gives none) ≡ gives (gapFrom r i xs)
+unfolding ordered firstNear gapFrom
+gaps-ordered r i [] o = refl
+gaps-ordered r i (x ∷ []) o = refl
+gaps-ordered r i (x ∷ y ∷ ys) o =
+    let b = ordered-rest x y ys o in
+    elim (decLt y (x + r)) [
+      | yes n ↦ gaps-here r i x y ys (gives none) n ∙ rw (le-ltb y x (b .0), lt-ltb (y - x) r (omega (arith, b .0)))
+      | no n ↦ gaps-later r i x y ys (gives none) (omega arith) ∙ rw (le-ltb (y - x) r (omega arith)) (gaps-ordered r (suc i) (y ∷ ys) (b .1))
+    ]
+
+pub gap-ordered : (r : ℕ) (xs : List ℕ) → T (ordered xs) → gapOr r xs (gives none) ≡ gives (firstGap r xs)
+gap-ordered r xs o = rw (zero-add (firstNear r xs)) at (gaps-ordered r 0 xs o)
 
 -- ---- check
 

@@ -15,12 +15,12 @@ use Rattle.tree.specs.Stored.{storedValues}
 use Rattle.tree.specs.Levels.{codeOf, levelValues}
 use Rattle.tree.specs.Walks.{found, toward, searchNodes, path}
 use Rattle.tree.specs.Promises.{Held}
-use Rattle.strip.specs.Lists.{upTo}
+use Rattle.strip.specs.Lists.{upTo, firstGap}
 use Rattle.strip.specs.Outcomes.{gives}
 use Rattle.strip.specs.Layout.{maxPins, maxBytes, partsStart}
 use Rattle.strip.specs.Image.{image}
 use Rattle.strip.specs.Opening.{opening}
-use Rattle.strip.specs.Calls.{timesIn, accessOf, searchOf, upToOf}
+use Rattle.strip.specs.Calls.{timesIn, accessOf, searchOf, upToOf, repeatOf}
 
 -- 1 to 65,535 times of 32 bits, none less than the one before
 pub record Packable (xs : List ℕ) : Type 0 where
@@ -49,10 +49,12 @@ abbrev pub ImageOpens : Type 0
 ImageOpens = (xs : List ℕ) → Packable xs → (levels : Levels) × Opens xs levels
 
 -- 3. On the image of a list, access at i gives time i, and counts the nodes from the root to rank i. A search gives the number of
--- strikes earlier than its target, and counts the nodes of its path. Up-to gives the number of strikes at or before its time.
+-- strikes earlier than its target, and counts the nodes of its path. Up-to gives the number of strikes at or before its time, and
+-- repeat the first position from 1 on whose gap is below r, or none.
 pub record ReadsBack (xs : List ℕ) : Type 0 where
   pub access : (i : ℕ) → i < length xs → accessOf (image xs) i ≡ found (getD xs i 0) (length (toward (length xs) i))
   pub search : (t : ℕ) → searchOf (image xs) t ≡ found (smaller t xs) (length (path xs t))
+  pub repeat : (r : ℕ) → repeatOf (image xs) r ≡ gives (firstGap r xs)
   pub up-to : (t : ℕ) → t < 2 ^ 32 → upToOf (image xs) t ≡ found (upTo t xs) (cond (eqb t (2 ^ 32 - 1)) 0 (length (path xs (suc t))))
 
 abbrev pub RoundTrip : Type 0

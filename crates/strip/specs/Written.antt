@@ -1,9 +1,9 @@
 -- What the functions behind pack answer and write.
-use mathlib.Core.List.{List, [], _∷_}
+use mathlib.Core.List.{List}
 use Prim.Native.Nat.{ℕ, _+_, _-_}
 use lib.ListN.{length, getD}
 use Rattle.tree.specs.declared.nodes.Levels.{Levels}
-use Rattle.strip.specs.Outcomes.{Outcome, verdict}
+use Rattle.strip.specs.Outcomes.{Outcome}
 use Rattle.strip.specs.Layout.{entry}
 use Rattle.strip.specs.Calls.{roomFor}
 

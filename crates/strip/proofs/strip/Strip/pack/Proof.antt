@@ -2,8 +2,7 @@
 use native.Mathlib.Omega.{arith}
 use mathlib.Core.Path.{refl}
 use lib.ListN.{length}
-use borrow.Author.Tests.{lt-ltb, le-ltb, eq-eqb, ne-eqb, le-leb, lt-leb}
-use Rattle.strip.specs.Lists.{firstLower}
+use borrow.Author.Tests.{lt-ltb, le-ltb, eq-eqb, ne-eqb}
 use Rattle.strip.specs.Outcomes.{verdict}
 use Rattle.strip.specs.Layout.{maxPins}
 use Rattle.strip.specs.Calls.{packAnswer, packOutput}
