@@ -2,14 +2,15 @@
 use mathlib.Core.Path.{_≡_, sym, ap, _∙_}
 use mathlib.Core.Bool.{Bool, cond}
 use mathlib.Core.List.{List}
-use Prim.Native.Nat.{ℕ, suc, _+_, _-_, _≤_, _<_}
+use Prim.Native.Nat.{ℕ, suc, _+_, _-_, _^_, _≤_, _<_, min}
 use native.Mathlib.Nat.{zero-add, le-refl}
 use native.Mathlib.Numerals.{add-one}
 use native.Mathlib.Decide.{decLt}
 use native.Mathlib.Omega.{arith}
 use lib.Dec.{ltb}
-use lib.ListN.{length}
+use lib.ListN.{length, take, drop, getD}
 use borrow.Author.Tests.{lt-ltb, le-ltb, eq-eqb, ne-eqb}
+use Rattle.codes.specs.Fetch.{fetched}
 use Rattle.tree.specs.declared.shape.Stretch.{Stretch}
 use Rattle.tree.specs.declared.nodes.Levels.{Levels}
 use Rattle.tree.specs.Shape.{rootPlace, childOf, sideOf, stretch, rank}
@@ -20,7 +21,7 @@ use Rattle.tree.specs.Standing.{Stands, accessFrom}
 use Rattle.tree.proofs.Heights.{place-in}
 use Rattle.tree.proofs.Stretches.{stretch-root, stretch-child, side-in, pins-of-node, node-of-pins}
 use Rattle.tree.proofs.NodeTimes.{time-above, time-step}
-use Rattle.tree.proofs.NodeFetches.{Level, level-fits}
+use Rattle.tree.proofs.NodeFetches.{fetched-at, Level, level-fits}
 use Rattle.tree.proofs.Walks.{child-bounds, parent-of, walk-out, walk-on, toward-on, met-fine, met-refused}
 
 -- ---- where a walk stands
@@ -53,8 +54,13 @@ module _ {levels : Levels} {s : List ℕ} {v depth : ℕ} {here : Stretch} {abov
   stands-level f k = level-fits levels s depth v f (w .low) k
 
   -- what opening the node gives is its time
-  pub stands-open : under v (at above) (fetchedAt levels s v) ≡ nodeTime (fetchedAt levels s) v
-  stands-open = sym (time-step (fetchedAt levels s) v (w .one) ∙ rw (w .parent))
+  pub stands-opened : under v (at above) (fetchedAt levels s v) ≡ nodeTime (fetchedAt levels s) v
+  stands-opened = sym (time-step (fetchedAt levels s) v (w .one) ∙ rw (w .parent))
+
+  -- by its level's part
+  pub stands-open : under v (at above) (fetched (getD (levels .codes) depth 0) (min (levels .pins + 1 - 2 ^ depth) (2 ^ depth)) (v - 2 ^ depth)
+      (take (getD (levels .ends) (depth + 1) 0 - getD (levels .ends) depth 0) (drop (getD (levels .ends) depth 0) s))) ≡ nodeTime (fetchedAt levels s) v
+  stands-open = ap (under v (at above)) (sym (fetched-at levels s depth v (w .low) (w .high))) ∙ stands-opened
 
   pub stands-child : (right : Bool) (t : ℕ) → v ≤ levels .pins → nodeTime (fetchedAt levels s) v ≡ at t
       → Stands levels s (childOf right v) (depth + 1) (sideOf right here) t

@@ -56,7 +56,14 @@ fn time_under(v: usize, above: u32, d: u32) -> Opened
 }
 
 // Opens node v of n by a fetch from its level's part alone, in code `code`. It has `depth` levels and the time `above` above it.
-fn open_part(part: &[u8], code: u8, n: usize, depth: usize, v: usize, above: u32) -> Opened
+pub(crate) fn open_node(
+    part: &[u8],
+    code: u8,
+    n: usize,
+    depth: usize,
+    v: usize,
+    above: u32,
+) -> Opened
     requires { ⌜ (2 ^ depth ≤ v) × (v < 2 * 2 ^ depth) × (v ≤ n) × (n < 2 ^ 63) × (length (now part) < 2 ^ 32) ⌝ }
     ensures { λ r. ⌜ timeOpened r ≡ under v (at above) (fetched code (min (n + 1 - 2 ^ depth) (2 ^ depth)) (v - 2 ^ depth) (now (part .entry))) ⌝ }
 {
@@ -69,8 +76,8 @@ fn open_part(part: &[u8], code: u8, n: usize, depth: usize, v: usize, above: u32
     }
 }
 
-// Opens node v, which has `depth` levels and the time `above` above it.
-pub(crate) fn open_node(s: &[u8], levels: Levels, depth: usize, v: usize, above: u32) -> Opened
+// Opens node v of a strip with these levels, likewise. Access and search do this themselves, since handing on all levels takes time.
+pub(crate) fn open_in(s: &[u8], levels: Levels, depth: usize, v: usize, above: u32) -> Opened
     requires { ⌜ Fits levels (now s) ⌝ }
     requires { ⌜ (2 ^ depth ≤ v) × (v < 2 * 2 ^ depth) × (v ≤ levels .pins) ⌝ }
     ensures { λ r. ⌜ timeOpened r ≡ under v (at above) (fetchedAt levels (now (s .entry)) v) ⌝ }
@@ -78,5 +85,5 @@ pub(crate) fn open_node(s: &[u8], levels: Levels, depth: usize, v: usize, above:
     let start = levels.ends[depth];
     let end = levels.ends[depth + 1];
     let code = levels.codes[depth];
-    open_part(&s[start..end], code, levels.pins, depth, v, above)
+    open_node(&s[start..end], code, levels.pins, depth, v, above)
 }

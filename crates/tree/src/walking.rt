@@ -40,8 +40,11 @@ pub fn access(s: &[u8], levels: Levels, i: usize) -> Accessed
     let mut time: u32 = 0;
     let mut nodes: usize = 0;
     loop {
+        let start = levels.ends[depth];
+        let end = levels.ends[depth + 1];
+        let code = levels.codes[depth];
         nodes += 1;
-        let opened = open_node(s, levels, depth, v, time);
+        let opened = open_node(&s[start..end], code, levels.pins, depth, v, time);
         match opened {
             Opened::Time(t) => {
                 time = t;
@@ -76,8 +79,11 @@ pub fn search(s: &[u8], levels: Levels, target: u32) -> Searched
     let mut nodes: usize = 0;
     let mut position = levels.pins;
     while v <= levels.pins {
+        let start = levels.ends[depth];
+        let end = levels.ends[depth + 1];
+        let code = levels.codes[depth];
         nodes += 1;
-        let opened = open_node(s, levels, depth, v, time);
+        let opened = open_node(&s[start..end], code, levels.pins, depth, v, time);
         match opened {
             Opened::Time(t) => {
                 time = t;

@@ -12,14 +12,14 @@ use Rattle.tree.specs.Listing.{timesFrom, stopFrom, listed}
 use Rattle.tree.specs.Standing.{Stands}
 use Rattle.tree.proofs.Heights.{place-in}
 use Rattle.tree.proofs.NodeFetches.{Level}
-use Rattle.tree.proofs.Steps.{stands-node, stands-level, stands-open}
+use Rattle.tree.proofs.Steps.{stands-node, stands-level, stands-opened}
 use Rattle.tree.proofs.Buffers.{replaced-none}
 use Rattle.tree.proofs.Listings.{listed-refused, stands-left, stands-right, listed-left, listed-right}
 use borrow.Author.Needs.{needs}
 use borrow.Fn.Kinds.{In, Out}
 use borrow.Fn.PlainCycle.{Measures, is, falls, and}
-use Rattle.tree.proofs.nodes.open_node.Kinds as open-node-kinds
-use Rattle.tree.proofs.nodes.open_node.Reads as open-node-reads
+use Rattle.tree.proofs.nodes.open_in.Kinds as open-in-kinds
+use Rattle.tree.proofs.nodes.open_in.Reads as open-in-reads
 use Rattle.tree.proofs.shape.root_place.Kinds as root-place-kinds
 use Rattle.tree.proofs.shape.root_place.Reads as root-place-reads
 use Rattle.tree.proofs.listing.list_under.Reads as reads
@@ -38,8 +38,8 @@ abbrev asked : ℕ → In 2 kinds.ps
 asked t = and 2 kinds.ps (falls 2 kinds.ps _<_ μ t) reads.Pre
 
 -- what is asked of the callees, and learnt from them
-abbrev calls : ℕ → In 1 open-node-kinds.ps × Out 1 open-node-kinds.ps open-node-kinds.r × In 0 root-place-kinds.ps × Out 0 root-place-kinds.ps root-place-kinds.r × In 2 kinds.ps × Out 2 kinds.ps kinds.r
-calls t = (open-node-reads.Asked, open-node-reads.Learnt, root-place-reads.Asked, root-place-reads.Learnt, asked t, reads.Post)
+abbrev calls : ℕ → In 1 open-in-kinds.ps × Out 1 open-in-kinds.ps open-in-kinds.r × In 0 root-place-kinds.ps × Out 0 root-place-kinds.ps root-place-kinds.r × In 2 kinds.ps × Out 2 kinds.ps kinds.r
+calls t = (open-in-reads.Asked, open-in-reads.Learnt, root-place-reads.Asked, root-place-reads.Learnt, asked t, reads.Post)
 
 -- the level of a node that has pins lies in the bytes
 level : {levels : Levels} {s : List ℕ} {v depth above : ℕ} {here : Stretch} → Fits levels s → Stands levels s v depth here above → 1 ≤ here .pins → Level levels s depth
@@ -49,8 +49,8 @@ returns : (t : ℕ) → lts.Need-returns (calls t) (given t) reads.Post
 unfolding stopFrom timesFrom
 returns t c = rw (c .if1 .taken) (refl, sym (replaced-none (c .before .before .before .args .times .now) (c .before .before .before .args .start)))
 
-open-node-requires : (t : ℕ) → lts.Need-open-node-requires (calls t) (given t) reads.Post
-open-node-requires t c κs =
+open-in-requires : (t : ℕ) → lts.Need-open-in-requires (calls t) (given t) reads.Post
+open-in-requires t c κs =
     let w = c .before .before .before .pre .1 .1 .0 in
     (c .before .before .before .pre .1 .0 .0, (w .low, w .high, stands-node w (omega arith)))
 
@@ -63,7 +63,7 @@ enum-known-opened-2 t c = search needs
 returns-2 : (t : ℕ) → lts.Need-returns-2 (calls t) (given t) reads.Post
 returns-2 t c =
     let w = c .before .before .before .before .before .before .before .pre .1 .1 .0 in
-    let e = sym (stands-open w) ∙ sym (c .before .before .before .open-node .ensures) ∙ ap timeOpened (c .before .opened2 .given .1) in
+    let e = sym (stands-opened w) ∙ sym (c .before .before .before .open-in .ensures) ∙ ap timeOpened (c .before .opened2 .given .1) in
     let z = listed-refused w (c .before .before .before .before .before .before .before .pre .1 .1 .1) (omega arith) _ _ e in
     (sym (z .0), sym (rw (z .1) (replaced-none (c .before .before .before .before .before .before .before .args .times .now) (c .before .before .before .before .before .before .before .args .start))))
 
@@ -83,7 +83,7 @@ list-under-requires : (t : ℕ) → lts.Need-list-under-requires (calls t) (give
 list-under-requires t c κs =
     let p = c .before .before .before .before .before .before .before .before .before .pre .1 in
     let e : nodeTime (fetchedAt (c .before .before .before .before .before .before .before .before .before .args .levels) (c .before .before .before .before .before .before .before .before .before .args .s .now)) (c .before .before .before .before .before .before .before .before .before .args .v) ≡ at (c .before .before .before .opened .given .0 .0) =
-    sym (stands-open (p .1 .0)) ∙ sym (c .before .before .before .before .before .open-node .ensures) ∙ ap timeOpened (c .before .before .before .opened .given .1) in
+    sym (stands-opened (p .1 .0)) ∙ sym (c .before .before .before .before .before .open-in .ensures) ∙ ap timeOpened (c .before .before .before .opened .given .1) in
     (omega (arith, c .before .before .before .before .before .before .before .before .before .pre .0, place-in (c .before .before .before .before .before .before .before .before .before .args .pins) (omega arith)), (p .0, stands-left (p .1 .0) (p .1 .1) (omega arith) _ e _ (c .before .root-place .ensures)))
 
 enum-told : (t : ℕ) → lts.Need-enum-told (calls t) (given t) reads.Post
@@ -99,7 +99,7 @@ returns-3 : (t : ℕ) → lts.Need-returns-3 (calls t) (given t) reads.Post
 returns-3 t c =
     let p = c .before .before .before .before .before .before .before .before .before .before .before .before .before .before .before .pre .1 in
     let e : nodeTime (fetchedAt (c .before .before .before .before .before .before .before .before .before .before .before .before .before .before .before .args .levels) (c .before .before .before .before .before .before .before .before .before .before .before .before .before .before .before .args .s .now)) (c .before .before .before .before .before .before .before .before .before .before .before .before .before .before .before .args .v) ≡ at (c .before .before .before .before .before .before .before .before .before .opened .given .0 .0) =
-    sym (stands-open (p .1 .0)) ∙ sym (c .before .before .before .before .before .before .before .before .before .before .before .open-node .ensures) ∙ ap timeOpened (c .before .before .before .before .before .before .before .before .before .opened .given .1) in
+    sym (stands-opened (p .1 .0)) ∙ sym (c .before .before .before .before .before .before .before .before .before .before .before .open-in .ensures) ∙ ap timeOpened (c .before .before .before .before .before .before .before .before .before .opened .given .1) in
     listed-left (p .1 .0) (p .1 .1) (omega arith) _ e _ (c .before .before .before .before .before .before .before .root-place .ensures) (c .before .before .before .before .before .before .before .before .before .before .before .before .before .before .before .args .times .now) (c .before .before .before .before .before .list-under .last .0) (c .before .before .before .before .before .list-under .ensures .1)
     _ _ _ _ refl (sym (ap listed (c .before .left .given .1)) ∙ c .before .before .before .before .before .list-under .ensures .0)
 
@@ -134,7 +134,7 @@ list-under-requires-2 : (t : ℕ) → lts.Need-list-under-requires-2 (calls t) (
 list-under-requires-2 t c κs =
     let p = c .before .before .before .before .before .before .before .before .before .before .before .before .before .before .before .pre .1 in
     let e : nodeTime (fetchedAt (c .before .before .before .before .before .before .before .before .before .before .before .before .before .before .before .args .levels) (c .before .before .before .before .before .before .before .before .before .before .before .before .before .before .before .args .s .now)) (c .before .before .before .before .before .before .before .before .before .before .before .before .before .before .before .args .v) ≡ at (c .before .before .before .before .before .before .before .before .before .opened .given .0 .0) =
-    sym (stands-open (p .1 .0)) ∙ sym (c .before .before .before .before .before .before .before .before .before .before .before .open-node .ensures) ∙ ap timeOpened (c .before .before .before .before .before .before .before .before .before .opened .given .1) in
+    sym (stands-opened (p .1 .0)) ∙ sym (c .before .before .before .before .before .before .before .before .before .before .before .open-in .ensures) ∙ ap timeOpened (c .before .before .before .before .before .before .before .before .before .opened .given .1) in
     let room : c .before .before .before .before .before .before .before .before .before .before .before .before .before .before .before .args .levels .pins ≤ length (set (c .before .before .before .before .before .list-under .last .0) (c .before .before .before .before .before .before .before .before .before .before .before .before .before .before .before .args .start + c .before .before .before .before .before .before .before .root-place .result - 1) (c .before .before .before .before .before .before .before .before .before .opened .given .0 .0)) =
     omega (arith, length-set (c .before .before .before .before .before .list-under .last .0) (c .before .before .before .before .before .before .before .before .before .before .before .before .before .before .before .args .start + c .before .before .before .before .before .before .before .root-place .result - 1) (c .before .before .before .before .before .before .before .before .before .opened .given .0 .0), c .before .before .before .before .before .list-under .kept .0, p .0 .1) in
     (omega (arith, c .before .before .before .before .before .before .before .before .before .before .before .before .before .before .before .pre .0, place-in (c .before .before .before .before .before .before .before .before .before .before .before .before .before .before .before .args .pins) (omega arith)), ((p .0 .0, room), stands-right (p .1 .0) (p .1 .1) (omega arith) _ e _ (c .before .before .before .before .before .before .before .root-place .ensures)))
@@ -146,7 +146,7 @@ returns-4 : (t : ℕ) → lts.Need-returns-4 (calls t) (given t) reads.Post
 returns-4 t c =
     let p = c .before .before .before .before .before .before .before .before .before .before .before .before .before .before .before .before .before .before .pre .1 in
     let e : nodeTime (fetchedAt (c .before .before .before .before .before .before .before .before .before .before .before .before .before .before .before .before .before .before .args .levels) (c .before .before .before .before .before .before .before .before .before .before .before .before .before .before .before .before .before .before .args .s .now)) (c .before .before .before .before .before .before .before .before .before .before .before .before .before .before .before .before .before .before .args .v) ≡ at (c .before .before .before .before .before .before .before .before .before .before .before .before .opened .given .0 .0) =
-    sym (stands-open (p .1 .0)) ∙ sym (c .before .before .before .before .before .before .before .before .before .before .before .before .before .before .open-node .ensures) ∙ ap timeOpened (c .before .before .before .before .before .before .before .before .before .before .before .before .opened .given .1) in
+    sym (stands-opened (p .1 .0)) ∙ sym (c .before .before .before .before .before .before .before .before .before .before .before .before .before .before .open-in .ensures) ∙ ap timeOpened (c .before .before .before .before .before .before .before .before .before .before .before .before .opened .given .1) in
     listed-right (p .1 .0) (p .1 .1) (omega arith) _ e _ (c .before .before .before .before .before .before .before .before .before .before .root-place .ensures) (c .before .before .before .before .before .before .before .before .before .before .before .before .before .before .before .before .before .before .args .times .now) (c .before .before .before .before .before .before .before .before .list-under .last .0) (c .before .before .before .before .before .before .before .before .list-under .ensures .1)
     (sym (ap listed (c .before .before .before .before .enum-told .given .1)) ∙ c .before .before .before .before .before .before .before .before .list-under .ensures .0) (omega (arith, p .1 .0 .inside, p .0 .1))
     (listed (c .before .before .list-under2 .result)) (c .before .before .list-under2 .last .0) (c .before .before .list-under2 .ensures .0) (c .before .before .list-under2 .ensures .1)
@@ -156,7 +156,7 @@ pub +list-under-spec : {M : Type 1} → statement M
     (given t)
     reads.Post
     (returns t)
-    (open-node-requires t)
+    (open-in-requires t)
     (enum-known-opened t)
     (enum-known-opened-2 t)
     (returns-2 t)

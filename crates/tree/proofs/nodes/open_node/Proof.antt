@@ -1,63 +1,71 @@
 -- `open_node` meets its contract.
-use mathlib.Core.Path.{sym, ap, _∙_}
+use mathlib.Core.Path.{_≡_, sym, ap, _∙_}
+use mathlib.Core.List.{List}
+use Prim.Native.Nat.{ℕ, _+_, _-_, _^_, min}
 use native.Mathlib.Omega.{arith}
-use lib.ListN.{length-take}
+use Rattle.codes.specs.Fetch.{found, fetched}
 use Rattle.tree.specs.Times.{at, under}
-use Rattle.tree.proofs.NodeFetches.{fetched-at, level-fits}
+use Rattle.tree.proofs.Heights.{height-above, height-le}
+use borrow.Author.Needs.{needs}
 use Rattle.tree.proofs.nodes.open_node.Statement.{statement}
 use Rattle.tree.proofs.nodes.open_node.Tie as tie
 
-mul-start : tie.Need-mul-start
-mul-start c = omega (arith, level-fits (c .before .args .t2) (c .before .args .s .now) (c .before .args .depth) (c .before .args .v) (c .before .pre .0) (c .before .pre .1 .0) (c .before .pre .1 .2))
+-- the fetch of the code, by the number of levels above the node
+same-fetch : (code n depth v first count : ℕ) (part : List ℕ) → first ≡ 2 ^ depth → count ≡ min (n + 1 - first) first
+    → fetched code (min (n + 1 - 2 ^ depth) (2 ^ depth)) (v - 2 ^ depth) part ≡ fetched code count (v - first) part
+same-fetch code n depth v first count part e k = rw (k, e)
 
-element-copy-out-start : tie.Need-element-copy-out-start
-element-copy-out-start c = omega (arith, level-fits (c .before .args .t2) (c .before .args .s .now) (c .before .args .depth) (c .before .args .v) (c .before .pre .0) (c .before .pre .1 .0) (c .before .pre .1 .2))
+power-of-two-requires : tie.Need-power-of-two-requires
+power-of-two-requires c κs = omega (arith, height-above (c .before .args .n) (c .before .args .depth) (omega arith), height-le (c .before .args .n) 63 (omega arith))
 
-add-end : tie.Need-add-end
-add-end c = omega (arith, level-fits (c .before .before .args .t2) (c .before .before .args .s .now) (c .before .before .args .depth) (c .before .before .args .v) (c .before .before .pre .0) (c .before .before .pre .1 .0) (c .before .before .pre .1 .2))
+add-least : tie.Need-add-least
+add-least c = search needs
 
-mul-end : tie.Need-mul-end
-mul-end c = omega (arith, level-fits (c .before .before .args .t2) (c .before .before .args .s .now) (c .before .before .args .depth) (c .before .before .args .v) (c .before .before .pre .0) (c .before .before .pre .1 .0) (c .before .before .pre .1 .2))
+sub-least : tie.Need-sub-least
+sub-least c = search needs
 
-element-copy-out-end : tie.Need-element-copy-out-end
-element-copy-out-end c = omega (arith, level-fits (c .before .before .args .t2) (c .before .before .args .s .now) (c .before .before .args .depth) (c .before .before .args .v) (c .before .before .pre .0) (c .before .before .pre .1 .0) (c .before .before .pre .1 .2))
+least-requires : tie.Need-least-requires
+least-requires c κs = search needs
 
-element-copy-out-code : tie.Need-element-copy-out-code
-element-copy-out-code c = omega (arith, level-fits (c .before .before .before .args .t2) (c .before .before .before .args .s .now) (c .before .before .before .args .depth) (c .before .before .before .args .v) (c .before .before .before .pre .0) (c .before .before .before .pre .1 .0) (c .before .before .before .pre .1 .2))
+sub-fetch : tie.Need-sub-fetch
+sub-fetch c = search needs
 
-sub-open-part : tie.Need-sub-open-part
-sub-open-part c = omega (arith, level-fits (c .before .before .before .before .args .t2) (c .before .before .before .before .args .s .now) (c .before .before .before .before .args .depth) (c .before .before .before .before .args .v) (c .before .before .before .before .pre .0) (c .before .before .before .before .pre .1 .0) (c .before .before .before .before .pre .1 .2))
+fetch-requires : tie.Need-fetch-requires
+fetch-requires c κs = search needs
 
-part-open-part-start : tie.Need-part-open-part-start
-part-open-part-start c = omega (arith, level-fits (c .before .before .before .before .args .t2) (c .before .before .before .before .args .s .now) (c .before .before .before .before .args .depth) (c .before .before .before .before .args .v) (c .before .before .before .before .pre .0) (c .before .before .before .before .pre .1 .0) (c .before .before .before .before .pre .1 .2))
+enum-known-found : tie.Need-enum-known-found
+enum-known-found c = search needs
 
-part-open-part-end : tie.Need-part-open-part-end
-part-open-part-end c = omega (arith, level-fits (c .before .before .before .before .args .t2) (c .before .before .before .before .args .s .now) (c .before .before .before .before .args .depth) (c .before .before .before .before .args .v) (c .before .before .before .before .pre .0) (c .before .before .before .before .pre .1 .0) (c .before .before .before .before .pre .1 .2))
+time-under-requires : tie.Need-time-under-requires
+time-under-requires c κs = search needs
 
-open-part-requires : tie.Need-open-part-requires
-open-part-requires c κs =
-    let a = c .before .before .before .before .before .args in
-    let p = c .before .before .before .before .before .pre .1 in
-    let l = level-fits (a .t2) (a .s .now) (a .depth) (a .v) (c .before .before .before .before .before .pre .0) (p .0) (p .2) in
-    (p .0, p .1, p .2, omega arith, simp length-take (omega arith))
+enum-told : tie.Need-enum-told
+enum-told c = search needs
 
 returns : tie.Need-returns
 returns c =
+    let a = c .before .before .before .before .before .before .before .before .args in
+    let s = same-fetch (a .code) (a .n) (a .depth) (a .v) (c .before .before .before .before .before .before .power-of-two .result) (c .before .before .before .before .before .least .result) (a .part .now) (c .before .before .before .before .before .before .power-of-two .ensures) (c .before .before .before .before .before .least .ensures) in
+    c .time-under .ensures ∙ ap (under (a .v) (at (a .above))) (sym (s ∙ sym (c .before .before .before .before .fetch .ensures) ∙ ap found (c .before .before .found .given .1)))
+
+returns-2 : tie.Need-returns-2
+returns-2 c =
     let a = c .before .before .before .before .before .before .args in
-    c .open-part .ensures ∙ ap (under (a .v) (at (a .above))) (sym (fetched-at (a .t2) (a .s .now) (a .depth) (a .v) (c .before .before .before .before .before .before .pre .1 .0) (c .before .before .before .before .before .before .pre .1 .1)))
+    let s = same-fetch (a .code) (a .n) (a .depth) (a .v) (c .before .before .before .before .power-of-two .result) (c .before .before .before .least .result) (a .part .now) (c .before .before .before .before .power-of-two .ensures) (c .before .before .before .least .ensures) in
+    ap (under (a .v) (at (a .above))) (sym (s ∙ sym (c .before .before .fetch .ensures) ∙ ap found (c .enum-told .given .1)))
 
 pub open-node-spec : {M : Type 1} → statement M
 open-node-spec =
     tie.close
     (tie.spec
-    mul-start
-    element-copy-out-start
-    add-end
-    mul-end
-    element-copy-out-end
-    element-copy-out-code
-    sub-open-part
-    part-open-part-start
-    part-open-part-end
-    open-part-requires
-    returns)
+    power-of-two-requires
+    add-least
+    sub-least
+    least-requires
+    sub-fetch
+    fetch-requires
+    enum-known-found
+    time-under-requires
+    enum-told
+    returns
+    returns-2)
