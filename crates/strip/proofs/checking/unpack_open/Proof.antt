@@ -1,14 +1,17 @@
 -- `unpack_open` meets its contract.
+use Prim.Native.Nat.{ℕ}
 use native.Mathlib.Omega.{arith}
+use lib.ListN.{length-replicate}
 use mathlib.Core.Path.{sym, ap, _∙_}
 use Rattle.strip.specs.Calls.{checked}
 use Rattle.strip.proofs.Checks.{pins-few, list-front, accepted-count, unpack-refused, unpack-listed}
+use Rattle.strip.specs.Layout.{maxPins}
 use borrow.Author.Needs.{needs}
 use Rattle.strip.proofs.checking.unpack_open.Statement.{statement}
 use Rattle.strip.proofs.checking.unpack_open.Tie as tie
 
 slice-aggregate-check-open : tie.Need-slice-aggregate-check-open
-slice-aggregate-check-open c = search needs
+slice-aggregate-check-open c = sym (length-replicate {A = ℕ} maxPins 0)
 
 check-open-requires : tie.Need-check-open-requires
 check-open-requires c κs = (c .before .before .before .pre, omega (arith, pins-few (c .before .before .before .args .levels) (c .before .before .before .args .s .now) (c .before .before .before .pre)))

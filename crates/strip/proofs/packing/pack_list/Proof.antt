@@ -3,10 +3,11 @@ use native.Mathlib.Omega.{arith}
 use mathlib.Core.Path.{_≡_, sym, ap, _∙_}
 use mathlib.Core.List.{List, _++_}
 use Prim.Native.Nat.{ℕ}
-use lib.ListN.{length, take, drop}
+use lib.ListN.{length, take, drop, length-replicate}
 use lib.Seq.{take-at}
 use Rattle.tree.specs.Stored.{storedValues}
 use Rattle.tree.proofs.Promises.{stored-levels}
+use Rattle.strip.specs.Layout.{maxPins}
 use borrow.Author.Needs.{needs}
 use Rattle.strip.proofs.packing.pack_list.Statement.{statement}
 use Rattle.strip.proofs.packing.pack_list.Tie as tie
@@ -16,7 +17,7 @@ stored-front : (xs old now : List ℕ) → now ≡ storedValues xs ++ drop (leng
 stored-front xs old now e = rw e (take-at (storedValues xs) (drop (length xs) old) (length xs) (stored-levels .count xs))
 
 slice-aggregate-construct : tie.Need-slice-aggregate-construct
-slice-aggregate-construct c = search needs
+slice-aggregate-construct c = sym (length-replicate {A = ℕ} maxPins 0)
 
 construct-requires : tie.Need-construct-requires
 construct-requires c κs = (c .before .before .before .pre .0, omega arith)

@@ -1,15 +1,18 @@
 -- `repeat_open` meets its contract.
+use Prim.Native.Nat.{ℕ}
 use native.Mathlib.Omega.{arith}
+use lib.ListN.{length-replicate}
 use mathlib.Core.Path.{sym, ap, _∙_}
 use Rattle.tree.specs.Listing.{nowhere, listed}
 use Rattle.strip.specs.Calls.{listIn}
 use Rattle.strip.proofs.Checks.{pins-few, list-count, list-front, repeated-lists}
+use Rattle.strip.specs.Layout.{maxPins}
 use borrow.Author.Needs.{needs}
 use Rattle.strip.proofs.repeating.repeat_open.Statement.{statement}
 use Rattle.strip.proofs.repeating.repeat_open.Tie as tie
 
 slice-aggregate-list : tie.Need-slice-aggregate-list
-slice-aggregate-list c = search needs
+slice-aggregate-list c = sym (length-replicate {A = ℕ} maxPins 0)
 
 list-requires : tie.Need-list-requires
 list-requires c κs = (c .before .before .pre, omega (arith, pins-few (c .before .before .args .levels) (c .before .before .args .s .now) (c .before .before .pre)))

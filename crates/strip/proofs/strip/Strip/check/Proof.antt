@@ -1,8 +1,12 @@
 -- `check` meets its contract.
+use mathlib.Core.Path.{sym}
+use Prim.Native.Nat.{ℕ}
 use native.Mathlib.Omega.{arith}
+use lib.ListN.{length-replicate}
 use Rattle.strip.specs.Calls.{checkOf}
 use Rattle.strip.proofs.Openings.{opening-is}
 use Rattle.strip.proofs.Checks.{pins-few}
+use Rattle.strip.specs.Layout.{maxPins}
 use borrow.Author.Needs.{needs}
 use Rattle.strip.proofs.strip.Strip.check.Statement.{statement}
 use Rattle.strip.proofs.strip.Strip.check.Tie as tie
@@ -14,7 +18,7 @@ enum-told : tie.Need-enum-told
 enum-told c = search needs
 
 slice-aggregate-check-open : tie.Need-slice-aggregate-check-open
-slice-aggregate-check-open c = search needs
+slice-aggregate-check-open c = sym (length-replicate {A = ℕ} maxPins 0)
 
 check-open-requires : tie.Need-check-open-requires
 check-open-requires c κs =
