@@ -40,6 +40,20 @@ module _ (r : ℕ) where
   near-positive [] h = absurd (omega arith)
   near-positive (x ∷ xs) h = near-some x xs
 
+  -- its time is before the one before it plus r
+  pub near-at : (xs : List ℕ) → firstNear r xs < length xs → getD xs (firstNear r xs) 0 < getD xs (firstNear r xs - 1) 0 + r
+  unfolding firstNear
+  near-at [] h = absurd (omega arith)
+  near-at (x ∷ []) h = absurd (omega arith)
+  near-at (x ∷ y ∷ ys) h = elim (decLt y (x + r)) [
+    | yes l ↦ rw (near-here x y ys l) l
+    | no l ↦
+        let e = near-later x y ys (omega arith) in
+        let s = near-some y ys in
+        let d : suc (firstNear r (y ∷ ys)) - 1 ≡ suc (firstNear r (y ∷ ys) - 1) = omega arith in
+        rw (e, d) (near-at (y ∷ ys) (omega arith))
+  ]
+
   module _ (xs : List ℕ) (i : ℕ) (h : suc i < length xs) where
     two : drop i xs ≡ getD xs i 0 ∷ getD xs (suc i) 0 ∷ drop (suc (suc i)) xs
     two = rw (drop-cons xs i 0 (omega arith), drop-cons xs (suc i) 0 h)

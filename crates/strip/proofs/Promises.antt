@@ -1,5 +1,5 @@
 -- The promises of specs/Promises.
-use mathlib.Core.Path.{_≡_, refl, sym, _∙_}
+use mathlib.Core.Path.{_≡_, refl, sym, ap, _∙_}
 use mathlib.Core.List.{List}
 use Prim.Native.Nat.{ℕ, suc, _-_, _^_, _≤_, _<_}
 use native.Mathlib.Decide.{decLt}
@@ -9,20 +9,21 @@ use borrow.Author.Tests.{lt-ltb, eq-eqb, ne-eqb}
 use Rattle.codes.specs.Codes.{kindOf, part, Within, Holds}
 use Rattle.codes.specs.Choice.{size}
 use Rattle.codes.proofs.Promises.{best-choice}
+use Rattle.tree.specs.declared.nodes.Levels.{Levels}
 use Rattle.tree.specs.Shape.{height}
 use Rattle.tree.specs.Stored.{storedValues}
 use Rattle.tree.specs.Levels.{codeOf, partOf, levelValues}
 use Rattle.tree.specs.Listing.{accesses}
 use Rattle.tree.specs.Promises.{Held}
 use Rattle.tree.proofs.Promises.{height-least, stored-levels, contents, search-finds, lists}
-use Rattle.strip.specs.Outcomes.{gives}
+use Rattle.strip.specs.Outcomes.{Outcome, gives, refuses, after}
 use Rattle.strip.specs.Image.{valuesAt, codeFor, partFor, planned, image}
 use Rattle.strip.specs.Opening.{opening}
-use Rattle.strip.specs.Calls.{accessOf, searchOf, upToOf, repeatOf}
-use Rattle.strip.specs.Promises.{Packable, RoomEnough, Opens, ImageOpens, ReadsBack, RoundTrip}
+use Rattle.strip.specs.Calls.{accessOf, searchOf, upToOf, repeatFrom, repeatOf}
+use Rattle.strip.specs.Promises.{Packable, RoomEnough, Opens, ImageOpens, ReadsBack, RoundTrip, RepeatLater}
 use Rattle.strip.proofs.Counts.{smaller-next, upTo-all}
 use Rattle.strip.proofs.Images.{strip-opens, part-back}
-use Rattle.strip.proofs.Readings.{repeat-lists, gap-ordered}
+use Rattle.strip.proofs.Readings.{positionOr1, repeat-lists, repeat-positive, gap-ordered}
 use Rattle.strip.proofs.Plans.{strip-small, plan-at, plan-pins, level-holds, values-within}
 
 module _ (xs : List ℕ) (p : Packable xs) where
@@ -115,3 +116,11 @@ image-opens xs p = (planned (storedValues xs), image-opened xs p)
 
 pub round-trip : RoundTrip
 round-trip = back
+
+pub repeat-later : RepeatLater
+unfolding repeatOf
+repeat-later s r i e = rw (ap positionOr1 e) at (go (opening s))
+  where
+    go : (o : Outcome Levels) → 1 ≤ positionOr1 (after o (λ levels. repeatFrom (accesses levels s) r (levels .pins) 0))
+    go (gives levels) = repeat-positive (accesses levels s) r (levels .pins)
+    go (refuses q c) = omega arith

@@ -19,7 +19,7 @@ use Rattle.strip.specs.Lists.{firstLower, gapFrom, firstGap}
 use Rattle.strip.specs.Outcomes.{Outcome, gives, refuses, Test, test, verdict, after}
 use Rattle.strip.specs.Calls.{timeOr0, refusalTest, fallsAt, positionsTests, listIn, imageTest, checkIn, nearAt, repeatFrom}
 use Rattle.strip.specs.Read.{firstNear, fallsTest, gapOr}
-use Rattle.strip.proofs.Gaps.{near-here, near-later, near-one, near-some, lower-near, not-ordered, is-ordered, ordered-rest}
+use Rattle.strip.proofs.Gaps.{near-here, near-later, near-one, near-some, near-positive, near-at, lower-near, not-ordered, is-ordered, ordered-rest}
 
 -- what ends a reading after its last position
 abbrev pub ending : Stop → Outcome (Option ℕ)
@@ -90,6 +90,31 @@ module _ (answer : ℕ → Answer) (r : ℕ) where
       go (stopped q c) f = rw f
       go (found x l) f = rw f (gaps-from k 0 x l f ∙ rw (zero-add (firstNear r (x ∷ timesFrom answer k 1))))
 
+-- the position that is given, which position 0 never is
+abbrev pub positionOr1 : Outcome (Option ℕ) → ℕ
+positionOr1 (gives none) = 1
+positionOr1 (gives (some i)) = i
+positionOr1 (refuses r c) = 1
+
+pub repeat-positive : (answer : ℕ → Answer) (r k : ℕ) → 1 ≤ positionOr1 (repeatFrom answer r k 0)
+repeat-positive answer r k = rw (repeat-lists answer r k) (at-end (stopFrom answer k 0) (timesFrom answer k 0))
+  where
+    here : (lower : Bool) (q : ℕ) → 1 ≤ q → 1 ≤ positionOr1 (cond lower (refuses 11 q) (gives (some q)))
+    here true q h = omega arith
+    here false q h = h
+
+    none-left : (z : Stop) → 1 ≤ positionOr1 (ending z)
+    none-left nowhere = omega arith
+    none-left (at i q c) = omega arith
+
+    at-end : (z : Stop) (xs : List ℕ) → 1 ≤ positionOr1 (gapOr r xs (ending z))
+    at-end z xs = elim (decLt (firstNear r xs) (length xs)) [
+      | yes l ↦
+          rw (lt-ltb (firstNear r xs) (length xs) l)
+          (here (ltb (getD xs (firstNear r xs) 0) (getD xs (firstNear r xs - 1) 0)) (firstNear r xs) (near-positive r xs (omega arith)))
+      | no l ↦ rw (le-ltb (firstNear r xs) (length xs) (omega arith)) (none-left z)
+    ]
+
 -- in an ordered list no time is lower
 gaps-ordered : (r i : ℕ) (xs : List ℕ) → T (ordered xs) → gapsFrom r i xs (gives none) ≡ gives (gapFrom r i xs)
 unfolding ordered firstNear gapFrom
@@ -125,25 +150,11 @@ module _ (answer : ℕ → Answer) {A : Type 0} (rest : List Test) (a : A) where
       go (found t j) true e = refl
       go (found t j) false e = e
 
--- the first lower position has a lower time
-lower-at : (xs : List ℕ) → firstNear 0 xs < length xs → getD xs (firstNear 0 xs) 0 < getD xs (firstNear 0 xs - 1) 0
-unfolding firstNear
-lower-at [] h = absurd (omega arith)
-lower-at (x ∷ []) h = absurd (omega arith)
-lower-at (x ∷ y ∷ ys) h = elim (decLt y (x + 0)) [
-  | yes l ↦ rw (near-here 0 x y ys l) (omega arith)
-  | no l ↦
-      let e = near-later 0 x y ys (omega arith) in
-      let s = near-some 0 y ys in
-      let d : suc (firstNear 0 (y ∷ ys)) - 1 ≡ suc (firstNear 0 (y ∷ ys) - 1) = omega arith in
-      rw (e, d) (lower-at (y ∷ ys) (omega arith))
-]
-
 falls-first : {A : Type 0} (xs : List ℕ) (end : Outcome (Option ℕ)) (f : Option ℕ → Outcome A)
     → after (gapOr 0 xs end) f ≡ cond (not (ordered xs)) (refuses 11 (firstLower xs)) (after end f)
 falls-first xs end f = elim (decLt (firstNear 0 xs) (length xs)) [
   | yes l ↦
-      rw (not-ordered xs (rw (lower-near xs) l), lower-near xs, lt-ltb (firstNear 0 xs) (length xs) l, lt-ltb (getD xs (firstNear 0 xs) 0) (getD xs (firstNear 0 xs - 1) 0) (lower-at xs l))
+      rw (not-ordered xs (rw (lower-near xs) l), lower-near xs, lt-ltb (firstNear 0 xs) (length xs) l, lt-ltb (getD xs (firstNear 0 xs) 0) (getD xs (firstNear 0 xs - 1) 0) (omega (arith, near-at 0 xs l)))
   | no l ↦ rw (is-ordered xs (rw (lower-near xs) (omega arith)), le-ltb (firstNear 0 xs) (length xs) (omega arith))
 ]
 

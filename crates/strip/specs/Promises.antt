@@ -1,8 +1,9 @@
--- What is shown of strips besides each call's contract and the demands. proofs/Promises proves each, as `room-enough`, `image-opens` and
--- `round-trip`.
+-- What is shown of strips besides each call's contract and the demands. proofs/Promises proves each, as `room-enough`, `image-opens`,
+-- `round-trip` and `repeat-later`.
 use mathlib.Core.Path.{_≡_}
 use mathlib.Core.Bool.{cond}
 use mathlib.Core.List.{List}
+use mathlib.Core.Option.{some}
 use Prim.Native.Nat.{ℕ, suc, _+_, _-_, _*_, _^_, _≤_, _<_}
 use lib.Dec.{T, eqb}
 use lib.ListN.{length, getD}
@@ -59,3 +60,7 @@ pub record ReadsBack (xs : List ℕ) : Type 0 where
 
 abbrev pub RoundTrip : Type 0
 RoundTrip = (xs : List ℕ) → Packable xs → ReadsBack xs
+
+-- 4. A position that repeat gives, on any strip, is 1 or more. So 0 can say none.
+abbrev pub RepeatLater : Type 0
+RepeatLater = (s : List ℕ) (r i : ℕ) → repeatOf s r ≡ gives (some i) → 1 ≤ i
