@@ -1,4 +1,5 @@
-/* The marked cases of strip A by the C interface: packs, looks up, checks and unpacks it, and fails where an answer differs. */
+/* The marked cases of strip A by the C interface: packs, looks up, sweeps, checks and unpacks it, and fails where an answer
+ * differs. */
 #include "gemcotton.h"
 
 #include <stdio.h>
@@ -12,6 +13,11 @@ static const uint8_t STRIP[] = {0x50, 0x49, 0x4E, 0x00, 0x01, 0x00, 0x05, 0x09, 
 static const uint8_t FALLING[] = {0x50, 0x49, 0x4E, 0x00, 0x01, 0x00, 0x05, 0x09, 0x00, 0x00, 0x00, 0x02, 0x0A, 0x00, 0x00,
                                   0x00, 0x03, 0x08, 0x00, 0x00, 0x00, 0x02, 0xC8, 0x00, 0x25, 0xA5, 0x80, 0x96, 0x97};
 static const uint8_t OTHER[] = {0x50, 0x49, 0x4E, 0x00, 0x01, 0x00, 0x01, 0x41, 0x00, 0x00, 0x00, 0x01, 0x00};
+
+/* The targets and positions of case 6, and the example of refusal 16. */
+static const uint32_t TARGETS[] = {250, 251, 1001};
+static const uint32_t POSITIONS[] = {1, 3, 5};
+static const uint32_t LOWER[] = {9, 8};
 
 static int differs(const char *what, struct gemcotton_answer answer, size_t refusal, size_t value, size_t nodes) {
   if (answer.refusal == refusal && answer.value == value && answer.nodes == nodes) {
@@ -35,6 +41,10 @@ int main(void) {
   faults += differs("position", gemcotton_access(out, sizeof STRIP, 5), GEMCOTTON_POSITION, 0, 0);
   faults += differs("search", gemcotton_search(out, sizeof STRIP, 250), 0, 1, 3);
   faults += differs("up-to", gemcotton_up_to(out, sizeof STRIP, 250), 0, 3, 3);
+  faults += differs("more answers", gemcotton_sweep(list, 3, out, sizeof STRIP, TARGETS, 2), GEMCOTTON_ANSWERS, 0, 0);
+  faults += differs("fewer answers", gemcotton_sweep(list, 2, out, sizeof STRIP, TARGETS, 3), GEMCOTTON_ANSWERS, 0, 0);
+  faults += differs("targets fall", gemcotton_sweep(list, 2, out, sizeof STRIP, LOWER, 2), GEMCOTTON_TARGETS_FALL, 1, 0);
+  faults += differs("no targets", gemcotton_sweep(list, 0, out, sizeof STRIP, TARGETS, 0), 0, 0, 0);
   faults += differs("check", gemcotton_check(out, sizeof STRIP), 0, 5, 0);
   faults += differs("no room", gemcotton_unpack(list, 4, out, sizeof STRIP), GEMCOTTON_SHORT, 5, 0);
   faults += differs("times fall", gemcotton_check(FALLING, sizeof FALLING), GEMCOTTON_TIMES_FALL, 3, 0);
@@ -43,6 +53,8 @@ int main(void) {
   faults += differs("image", gemcotton_check(OTHER, sizeof OTHER), GEMCOTTON_IMAGE, 0, 0);
   faults += differs("image in unpack", gemcotton_unpack(list, 6, OTHER, sizeof OTHER), GEMCOTTON_IMAGE, 0, 0);
   faults += memcmp(list, untouched, sizeof list) != 0;
+  faults += differs("sweep", gemcotton_sweep(list, 3, out, sizeof STRIP, TARGETS, 3), 0, 0, 5);
+  faults += memcmp(list, POSITIONS, sizeof POSITIONS) != 0 || memcmp(list + 3, untouched, 3 * sizeof *list) != 0;
   faults += differs("unpack", gemcotton_unpack(list, 6, out, sizeof STRIP), 0, 5, 0);
   faults += memcmp(list, TIMES, sizeof TIMES) != 0 || list[5] != 7;
   faults += differs("repeat", gemcotton_repeat(out, sizeof STRIP, 150), 0, 2, 0);

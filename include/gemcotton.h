@@ -5,7 +5,7 @@
  *
  * Memory: a pointer and the length after it, in entries, name what is lent. A pointer is not null, even where its length is 0,
  * and what is written overlaps nothing else that is lent. No call keeps a pointer or uses a heap. A call writes only where its
- * comment says so, and nothing at a refusal.
+ * comment says so, and nothing at a refusal, but for a sweep that has written the answers of earlier targets.
  */
 #ifndef GEMCOTTON_H
 #define GEMCOTTON_H
@@ -38,7 +38,9 @@ enum gemcotton_refusal {
   GEMCOTTON_TIMES_FALL = 11, /* the strip's times fall: the position of the lower time */
   GEMCOTTON_IMAGE = 12,     /* bytes other than those that the strip's list packs to: 0 */
   GEMCOTTON_LENGTH = 13,    /* a length that is not 7 + 5h and the parts', h the height: 0 */
-  GEMCOTTON_POSITION = 14   /* a position at or past the pin count: 0 */
+  GEMCOTTON_POSITION = 14,  /* a position at or past the pin count: 0 */
+  GEMCOTTON_ANSWERS = 15,   /* answers and targets differ in length: 0 */
+  GEMCOTTON_TARGETS_FALL = 16 /* the targets fall: the first lower index */
 };
 
 /* `refusal` is 0 where the call is not refused; `value` is then what it gives, and `nodes` the nodes that it opened. Otherwise
@@ -59,8 +61,8 @@ size_t gemcotton_root_place(size_t n);
 struct gemcotton_answer gemcotton_pack(uint8_t *out, size_t out_length, const uint32_t *times, size_t times_length);
 
 /* The reading calls open the strip first, refused in this order: 5 (under 7 bytes), 6, 7, 1, 5 (under 7 + 5h), 8 from level 1
- * on, 13. Then they open nodes, and the first node with 9 or 10 ends them. What access, search and up-to give is said of a strip that
- * some list packs to; on any other they take the same steps down the tree. */
+ * on, 13. Then they open nodes, and the first node with 9 or 10 ends them. What access, search, up-to and sweep give is said of a
+ * strip that some list packs to; on any other they take the same steps down the tree. */
 
 /* Gives the time at position i and the nodes opened, from the root to the node of that position. Refused with 14 after opening. */
 struct gemcotton_answer gemcotton_access(const uint8_t *strip, size_t strip_length, size_t i);
@@ -73,6 +75,15 @@ struct gemcotton_answer gemcotton_search(const uint8_t *strip, size_t strip_leng
 /* Gives the number of strikes at or before the time, and the nodes opened: the pin count and 0 nodes for 4,294,967,295, where only
  * opening is refused; otherwise what a search for the time plus 1 gives. */
 struct gemcotton_answer gemcotton_up_to(const uint8_t *strip, size_t strip_length, uint32_t time);
+
+/* Searches for targets, none less than the one before, in one walk. Writes to `answers` what a search for each target gives, and gives 0 and
+ * the nodes opened in all: on a strip that some list packs to, the different nodes that those searches open. No targets open none.
+ * Refused after opening with 15, then 16, with nothing written. The first target goes as a search does, and the nodes left by
+ * their left side are remembered. Each later target drops remembered nodes from the deepest up while their time is below it, and
+ * goes on from the right child of the last dropped, if any. The position is that of the deepest remembered node, or the pin count.
+ * A node with 9 or 10 ends the sweep: the answers of the targets before the one that comes to it have been written, no others. */
+struct gemcotton_answer gemcotton_sweep(uint32_t *answers, size_t answers_length, const uint8_t *strip, size_t strip_length,
+                                        const uint32_t *targets, size_t targets_length);
 
 /* The three calls below read all positions and count no nodes. For each position from 0 on they give access's refusal, then 11
  * where its time is lower than the one before. A call takes under 1 MiB of the stack, however short the strip. */

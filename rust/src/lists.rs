@@ -1,5 +1,8 @@
 //! Lists for the tests of trees and strips, and what must be answered on them.
 
+use std::collections::BTreeSet;
+use std::iter;
+
 use crate::random::Random;
 use crate::reference::tree::{height, ranks};
 
@@ -38,6 +41,28 @@ pub fn rising(n: usize, mut gap: impl FnMut() -> u32) -> Vec<u32> {
 pub fn sorted(mut times: Vec<u32>) -> Vec<u32> {
     times.sort();
     times
+}
+
+/// Lists of n that fall, with the first lower position: each position of a short list, some of a
+/// long one.
+pub fn falling_lists(n: usize, random: &mut Random) -> Vec<(Vec<u32>, usize)> {
+    let mut positions: Vec<usize> = match n {
+        2..=40 => (1..n).collect(),
+        _ => [1, 2, 3, n / 2, n - 2, n - 1].to_vec(),
+    };
+    positions.push(1 + random.below(n - 1));
+    let mut falling = |i| falling(n, i, random).map(|times| (times, i));
+    positions.into_iter().flat_map(&mut falling).collect()
+}
+
+/// Lists of n that fall at i, there alone or later too.
+fn falling(n: usize, i: usize, random: &mut Random) -> [Vec<u32>; 2] {
+    let mut times = rising(n, || 1 + random.of_width(3));
+    // By one, or as far as can be.
+    times[i] = [times[i - 1] - 1, 0][random.below(2)];
+    let mut later = times.clone();
+    later[i + 1..].fill_with(|| random.of_width(6));
+    [times, later]
 }
 
 const SHAPES: usize = 13;
@@ -115,6 +140,40 @@ pub fn targets(times: &[u32], random: &mut Random) -> Vec<u32> {
     targets
 }
 
+/// The sorts of targets for a sweep.
+pub const SORTS: usize = 7;
+
+/// A target of this sort.
+fn target(times: &[u32], sort: usize, random: &mut Random) -> u32 {
+    let n = times.len();
+    let time = times[random.below(n)];
+    let up_to = |limit: u32, random: &mut Random| random.below(limit as usize + 1) as u32;
+    match sort {
+        0 => time,
+        1 => [time.saturating_sub(1), time.saturating_add(1)][random.below(2)],
+        // At or before the first time, and at or past the last.
+        2 => up_to(times[0], random),
+        3 => !up_to(!times[n - 1], random),
+        4 => [0, u32::MAX][random.below(2)],
+        5 => up_to(times[n - 1], random),
+        _ => target(times, random.below(SORTS - 1), random),
+    }
+}
+
+/// So many targets for a sweep, of one sort or the last of all sorts. In half of the calls about
+/// half of them equal the one before.
+pub fn sweep_targets(times: &[u32], count: usize, sort: usize, random: &mut Random) -> Vec<u32> {
+    let repeated = random.below(2) == 0;
+    let mut targets = Vec::new();
+    for _ in 0..count {
+        match targets.last() {
+            Some(&before) if repeated && random.below(2) == 0 => targets.push(before),
+            _ => targets.push(target(times, sort, random)),
+        }
+    }
+    sorted(targets)
+}
+
 // ---- What must be answered ----
 
 /// What a list's tree or strip must answer, told by the list and the ranks alone.
@@ -145,17 +204,32 @@ impl<'a> Answers<'a> {
         (self.times[i], self.nodes[i])
     }
 
-    /// The number of times below t, and the nodes opened. "From each node it goes to the left
-    /// child when the plain list's time at that node's rank is at or above the target, else
-    /// to the right child".
-    pub fn search(&self, t: u32) -> (usize, usize) {
-        let (mut v, mut nodes) = (1, 0);
-        while v <= self.times.len() {
-            nodes += 1;
+    /// "The path of a search on it begins at node 1, where there are nodes. From each node it goes
+    /// to the left child when the plain list's time at that node's rank is at or above the target,
+    /// else to the right child, and it ends where that child is not among the nodes."
+    pub fn path(&self, t: u32) -> impl Iterator<Item = usize> + '_ {
+        let among = |v| (v <= self.times.len()).then_some(v);
+        iter::successors(among(1), move |&v| {
             let time = self.times[self.ranks[v - 1]];
-            v = if time >= t { 2 * v } else { 2 * v + 1 };
-        }
-        (self.times.partition_point(|&time| time < t), nodes)
+            among(if time >= t { 2 * v } else { 2 * v + 1 })
+        })
+    }
+
+    /// The number of times below t, and the nodes opened.
+    pub fn search(&self, t: u32) -> (usize, usize) {
+        (self.below(t), self.path(t).count())
+    }
+
+    /// The number of times below each target, and of different nodes on the paths: "Two paths share
+    /// a node where they have the same node number."
+    pub fn sweep(&self, targets: &[u32]) -> (Vec<usize>, usize) {
+        let positions = targets.iter().map(|&t| self.below(t)).collect();
+        let nodes: BTreeSet<usize> = targets.iter().flat_map(|&t| self.path(t)).collect();
+        (positions, nodes.len())
+    }
+
+    fn below(&self, t: u32) -> usize {
+        self.times.partition_point(|&time| time < t)
     }
 
     /// The number of times up to t, and the nodes opened. "It gives n and 0 nodes for

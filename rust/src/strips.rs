@@ -2,11 +2,13 @@
 
 use std::ops::Range;
 
-use crate::lists::{lists, rising};
-use crate::parts::{any_code, chosen};
+use crate::lists::{around_powers, few_pins, lists, rising};
+use crate::parts::{any_code, chains, chosen, chunks, part_of_chunks};
 use crate::random::Random;
 use crate::reference::strip::{image, PINS};
-use crate::reference::tree::{height, parts_of_values, stored};
+use crate::reference::tree::{
+    height, is_left, nodes_of_level, parts_of_values, rank, stored, values_of_level,
+};
 
 // ---- Marked strips ----
 
@@ -91,7 +93,7 @@ pub fn small_strips(random: &mut Random) -> Vec<Vec<u8>> {
     strips
 }
 
-// ---- Damage ----
+// ---- Bytes that need not be a strip ----
 
 /// The pin count that the bytes tell, or 0 where they are cut before it.
 pub fn pins(strip: &[u8]) -> usize {
@@ -108,6 +110,45 @@ pub fn surrounded(strip: &[u8], random: &mut Random) -> (Vec<u8>, Range<usize>) 
     (memory, before..before + strip.len())
 }
 
+// ---- Refusals at one node ----
+
+/// The list's strip in any codes, but node v stores this number in chunks of b bits, with so many
+/// chunks of zeros on top. From 2^32 on it is refused there with 9.
+pub fn with_number(
+    times: &[u32],
+    v: usize,
+    number: u64,
+    b: u32,
+    zeros: usize,
+    random: &mut Random,
+) -> Vec<u8> {
+    let (n, values, level) = (times.len(), stored(times), height(v));
+    let mut levels = parts_of_values(&values, any_code(random));
+    let mut chains = chains(values_of_level(&values, level), b);
+    chains[v - nodes_of_level(n, level).start()] = [chunks(number, b), vec![0; zeros]].concat();
+    levels[level - 1] = (64 + b as u8, part_of_chunks(&chains, b));
+    image(n, &levels)
+}
+
+/// The list's strip in any codes, but node v stores this value.
+pub fn with_value(times: &[u32], v: usize, value: u32, random: &mut Random) -> Vec<u8> {
+    let mut values = stored(times);
+    values[v - 1] = value;
+    image(times.len(), &parts_of_values(&values, any_code(random)))
+}
+
+/// The most that node v can store. One more is refused there with 10, or is no value.
+pub fn most_stored(times: &[u32], v: usize) -> u32 {
+    let parent = |v: usize| times[rank(times.len(), v / 2).expect("a node")];
+    match v {
+        1 => u32::MAX,
+        _ if is_left(v) => parent(v),
+        _ => u32::MAX - parent(v),
+    }
+}
+
+// ---- Damage ----
+
 /// Puts another length into a level's entry.
 fn set_length(strip: &mut [u8], level: usize, length: u32) {
     let place = 7 + 5 * (level - 1) + 1;
@@ -116,7 +157,7 @@ fn set_length(strip: &mut [u8], level: usize, length: u32) {
 
 /// Strips of a list with more than one pin, where the sum of the lengths would be right if it
 /// were kept in 32 bits.
-pub fn wrapping_lengths(times: &[u32], random: &mut Random) -> Vec<Vec<u8>> {
+fn wrapping_lengths(times: &[u32], random: &mut Random) -> Vec<Vec<u8>> {
     let (n, h) = (times.len(), height(times.len()));
     let strip = image(n, &parts_of_values(&stored(times), chosen));
     let parts = (strip.len() - 7 - 5 * h) as u32;
@@ -160,7 +201,7 @@ pub fn change_bytes(strip: &mut [u8], from: usize, random: &mut Random) {
 
 /// Fills the part of one level, or as often all parts, with random bytes of this density. They
 /// get somewhat shorter or longer.
-pub fn fill_parts(levels: &mut [Level], ones: usize, random: &mut Random) {
+fn fill_parts(levels: &mut [Level], ones: usize, random: &mut Random) {
     let one = random.below(2 * levels.len());
     let all = one >= levels.len();
     for (level, (_, part)) in levels.iter_mut().enumerate() {
@@ -173,7 +214,7 @@ pub fn fill_parts(levels: &mut [Level], ones: usize, random: &mut Random) {
 
 /// Gives a level of a long list another code or a shorter part, or changes bytes of it and of
 /// those below it, round by round.
-pub fn damage_level(levels: &mut [Level], round: usize, random: &mut Random) {
+fn damage_level(levels: &mut [Level], round: usize, random: &mut Random) {
     let level = random.below(levels.len());
     let (code, part) = &mut levels[level];
     match round % 3 {
@@ -192,7 +233,7 @@ pub fn damage_level(levels: &mut [Level], round: usize, random: &mut Random) {
 
 /// A strip with random codes and short random parts, and often one more fault. Half of the pin
 /// counts are small, and a quarter are of these.
-pub fn random_strip(counts: &[usize], random: &mut Random) -> Vec<u8> {
+fn random_strip(counts: &[usize], random: &mut Random) -> Vec<u8> {
     let n = match random.below(4) {
         0 => random.below(PINS + 1),
         1 => counts[random.below(counts.len())],
@@ -222,4 +263,105 @@ pub fn random_strip(counts: &[usize], random: &mut Random) -> Vec<u8> {
         _ => {}
     }
     strip
+}
+
+// ---- Damaged strips, each given to a test ----
+
+/// Small strips with every change of one byte.
+pub fn changes_of_one_byte(random: &mut Random, mut test: impl FnMut(&[u8], &mut Random)) {
+    for mut strip in small_strips(random) {
+        for place in 0..strip.len() {
+            for change in 1..=255 {
+                strip[place] ^= change;
+                test(&strip, random);
+                strip[place] ^= change;
+            }
+        }
+    }
+}
+
+/// Strips cut anywhere or with bytes added, and the number that they are refused with, which
+/// carries 0. Where a call read on past a cut, it would find the rest.
+pub fn cuts_and_bytes_added(random: &mut Random, mut test: impl FnMut(&[u8], usize)) {
+    for n in few_pins() {
+        for levels in many_levels(n, random) {
+            let mut strip = image(n, &levels);
+            let (length, header) = (strip.len(), 7 + 5 * height(n));
+            for cut in 0..length {
+                test(&strip[..cut], if cut < header { 5 } else { 13 });
+            }
+            for more in [1, 1, 2, 7, 255, 256, 1000] {
+                strip.truncate(length);
+                strip.extend(random.dense_bytes(more, 16 * (more % 2)));
+                test(&strip, 13);
+            }
+        }
+    }
+}
+
+/// Strips with up to three bytes changed.
+pub fn changes_of_bytes(random: &mut Random, mut test: impl FnMut(&[u8], &mut Random)) {
+    for n in few_pins() {
+        for levels in many_levels(n, random) {
+            let strip = image(n, &levels);
+            for round in 0..4 {
+                let mut strip = strip.clone();
+                // In half of the rounds the header stays whole, if there are other bytes.
+                let header = (7 + 5 * height(n)).min(strip.len() - 1);
+                change_bytes(&mut strip, round % 2 * header, random);
+                test(&strip, random);
+            }
+        }
+    }
+}
+
+/// Strips with parts of random bytes.
+pub fn random_parts(random: &mut Random, mut test: impl FnMut(&[u8], &mut Random)) {
+    for n in few_pins() {
+        for levels in many_levels(n, random) {
+            for ones in [1, 3, 8, 13] {
+                let mut levels = levels.clone();
+                fill_parts(&mut levels, ones, random);
+                test(&image(n, &levels), random);
+            }
+        }
+    }
+}
+
+/// Strips of lists of these lengths, in codes as in `parts_of_values`, with a damaged level.
+pub fn damaged_levels(
+    counts: &[usize],
+    mut code_for: impl FnMut(usize, &[u32]) -> u8,
+    random: &mut Random,
+    mut test: impl FnMut(&[u8], &mut Random),
+) {
+    for &n in counts {
+        let times = rising(n, || random.skewed() & random.of_width(14));
+        let levels = parts_of_values(&stored(&times), &mut code_for);
+        for round in 0..12 {
+            let mut levels = levels.clone();
+            damage_level(&mut levels, round, random);
+            test(&image(n, &levels), random);
+        }
+    }
+}
+
+/// Strips where the sum of the lengths would be right if it were kept in 32 bits. They are refused
+/// with 13.
+pub fn wrapping_sums(random: &mut Random, mut test: impl FnMut(&[u8])) {
+    for n in few_pins().chain([1000, 40_000, PINS]).filter(|&n| n > 1) {
+        let times = rising(n, || random.of_width(3));
+        for strip in wrapping_lengths(&times, random) {
+            test(&strip);
+        }
+    }
+}
+
+/// Strips with random codes and parts.
+pub fn random_strips(random: &mut Random, mut test: impl FnMut(&[u8], &mut Random)) {
+    let counts = around_powers(PINS);
+    for _ in 0..20_000 {
+        let strip = random_strip(&counts, random);
+        test(&strip, random);
+    }
 }

@@ -4,7 +4,7 @@ use crate::reference::strip::Refusal;
 
 /// How often each refusal came, by its number, and an answer at 0.
 #[derive(Default, Debug)]
-pub struct Tally([usize; 15]);
+pub struct Tally([usize; 17]);
 
 impl Tally {
     /// Counts the result and gives the answer, if it is one.

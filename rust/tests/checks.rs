@@ -4,19 +4,20 @@
 use std::fmt::Debug;
 use std::thread;
 
+use gemcotton_tests::lend::lend;
 use gemcotton_tests::lists::{around_powers, few_lists, few_pins, lists, rising};
-use gemcotton_tests::parts::{any_code, chains, chosen, chunks, part_of_chunks};
+use gemcotton_tests::parts::{any_code, chains, chosen, part_of_chunks};
 use gemcotton_tests::random::Random;
 use gemcotton_tests::reference::strip as reference;
 use gemcotton_tests::reference::strip::{image, refused, Refusal, PINS};
 use gemcotton_tests::reference::tree::{
-    height, is_left, nodes_of_level, parts_of_values, rank, stored, stretch, values_of_level,
-    HEIGHT,
+    height, is_left, nodes_of_level, parts_of_values, stored, stretch, values_of_level, HEIGHT,
 };
 use gemcotton_tests::reference::{choose, encode, size};
 use gemcotton_tests::strips::{
-    change_bytes, changed_b, damage_level, faulty, fill_parts, many_levels, pins, random_strip,
-    small_strips, surrounded, wrapping_lengths, A, B, TIMES_A,
+    change_bytes, changed_b, changes_of_bytes, changes_of_one_byte, cuts_and_bytes_added,
+    damaged_levels, faulty, many_levels, most_stored, pins, random_parts, random_strips,
+    surrounded, with_number, with_value, wrapping_sums, A, B, TIMES_A,
 };
 use gemcotton_tests::tally::Tally;
 use gemcotton_tests::{proved, straightforward};
@@ -82,20 +83,12 @@ impl Strip<'_> {
     /// They are lent this much room, with other entries around it. Nothing but the list may be
     /// written, and at a refusal nothing at all.
     fn expect_unpack(self, room: usize, expected: Result<&[u32], Refusal>) {
-        const BEFORE: usize = 3;
-        let memory: Vec<u32> = (0..BEFORE + room + 5)
-            .map(|i| 0xA5C3_9669 ^ i as u32)
-            .collect();
-        let mut after = memory.clone();
-        if let Ok(times) = expected {
-            after[BEFORE..BEFORE + times.len()].copy_from_slice(times);
-        }
         for calls in &COMPARED {
             let place = || self.place(calls, ("unpack", room));
-            let mut memory = memory.clone();
-            let found = (calls.unpack)(self.0, &mut memory[BEFORE..BEFORE + room]);
+            let unpack = |out: &mut [u32]| (calls.unpack)(self.0, out);
+            let (found, kept) = lend(room, expected.unwrap_or(&[]), unpack);
             assert_eq!(found, expected.map(<[u32]>::len), "{}", place());
-            assert!(memory == after, "{}", place());
+            assert!(kept, "{}", place());
         }
     }
 
@@ -337,26 +330,17 @@ fn values_past_32_bits() {
     for n in few_pins() {
         for b in 1..=8 {
             let times = few_lists(n, 1, &mut random).remove(0);
-            let values = stored(&times);
-            let mut levels = parts_of_values(&values, any_code(&mut random));
             let v = 1 + random.below(n);
-            let level = height(v);
-            let index = v - nodes_of_level(n, level).start();
-            let mut chains = chains(values_of_level(&values, level), b);
-            let mut strip = |number: u64, zeros: usize| {
-                chains[index] = chunks(number, b);
-                chains[index].extend(vec![0; zeros]);
-                levels[level - 1] = (64 + b as u8, part_of_chunks(&chains, b));
-                image(n, &levels)
-            };
             // Positions before the node's subtree do not need the node.
             let before = &times[..stretch(n, v).0];
             for number in [1 << 32, (1 << 32) + 1, 1 << 33, 1 << 40, 1 << 63] {
-                let strip = strip(number, random.below(3));
+                let zeros = random.below(3);
+                let strip = with_number(&times, v, number, b, zeros, &mut random);
                 check_read(&strip, before, refused(9, v), &mut random);
             }
             // The greatest that is no refusal itself.
-            check_damaged(&strip(u32::MAX.into(), 0), &mut met, &mut random);
+            let greatest = with_number(&times, v, u32::MAX.into(), b, 0, &mut random);
+            check_damaged(&greatest, &mut met, &mut random);
         }
     }
     met.require(&[10], 50);
@@ -370,24 +354,13 @@ fn times_past_the_ends() {
     let mut past = [0, 0];
     for n in few_pins() {
         for times in few_lists(n, 4, &mut random) {
-            let values = stored(&times);
             for v in (2..=n).step_by(1 + n / 30) {
-                let parent = times[rank(n, v / 2).expect("a node")];
-                let room = if is_left(v) {
-                    parent
-                } else {
-                    u32::MAX - parent
-                };
-                let mut strip = |value| {
-                    let mut values = values.clone();
-                    values[v - 1] = value;
-                    image(n, &parts_of_values(&values, any_code(&mut random)))
-                };
+                let most = most_stored(&times, v);
                 // Just at the end, where the nodes below may pass it.
-                let at = strip(room);
-                let beyond = room.checked_add(1).map(strip);
+                let at = with_value(&times, v, most, &mut random);
                 check_damaged(&at, &mut met, &mut random);
-                if let Some(strip) = beyond {
+                if let Some(more) = most.checked_add(1) {
+                    let strip = with_value(&times, v, more, &mut random);
                     let before = &times[..stretch(n, v).0];
                     check_read(&strip, before, refused(10, v), &mut random);
                     past[v % 2] += 1;
@@ -660,17 +633,10 @@ fn chunks_of_zeros_on_top() {
 
 #[test]
 fn every_change_of_one_byte() {
-    let mut random = Random(14);
     let mut met = Met::default();
-    for mut strip in small_strips(&mut random) {
-        for place in 0..strip.len() {
-            for change in 1..=255 {
-                strip[place] ^= change;
-                check_damaged(&strip, &mut met, &mut random);
-                strip[place] ^= change;
-            }
-        }
-    }
+    changes_of_one_byte(&mut Random(14), |strip, random| {
+        check_damaged(strip, &mut met, random);
+    });
     met.require(&[0, 5, 6, 7, 8, 9, 10, 11, 12, 13], 1000);
     met.require(&[1], 10);
     met.unpack.require(&[4], 100);
@@ -679,26 +645,9 @@ fn every_change_of_one_byte() {
 
 #[test]
 fn every_cut_and_bytes_added() {
-    let mut random = Random(15);
-    for n in few_pins() {
-        for levels in many_levels(n, &mut random) {
-            let mut strip = image(n, &levels);
-            let (length, header) = (strip.len(), 7 + 5 * height(n));
-            for cut in 0..length {
-                let number = if cut < header { 5 } else { 13 };
-                // Where a call read on past the cut, it would find the rest.
-                let cut = Strip(&strip[..cut]);
-                assert_eq!(cut.check(), refused(number, 0));
-                assert_eq!(cut.unpack(random.below(n + 2)), refused(number, 0));
-                assert_eq!(cut.repeat(random.skewed()), refused(number, 0));
-            }
-            for more in [1, 1, 2, 7, 255, 256, 1000] {
-                strip.truncate(length);
-                strip.extend(random.dense_bytes(more, 16 * (more % 2)));
-                Strip(&strip).check_refused(13, 0);
-            }
-        }
-    }
+    cuts_and_bytes_added(&mut Random(15), |strip, number| {
+        Strip(strip).check_refused(number, 0);
+    });
 }
 
 #[test]
@@ -723,36 +672,19 @@ fn parts_cut_short() {
 
 #[test]
 fn changed_bytes() {
-    let mut random = Random(17);
     let mut met = Met::default();
-    for n in few_pins() {
-        for levels in many_levels(n, &mut random) {
-            let strip = image(n, &levels);
-            for round in 0..4 {
-                let mut strip = strip.clone();
-                // In half of the rounds the header stays whole, if there are other bytes.
-                let header = (7 + 5 * height(n)).min(strip.len() - 1);
-                change_bytes(&mut strip, round % 2 * header, &mut random);
-                check_damaged(&strip, &mut met, &mut random);
-            }
-        }
-    }
+    changes_of_bytes(&mut Random(17), |strip, random| {
+        check_damaged(strip, &mut met, random);
+    });
     met.require(&[5, 6, 7, 8, 9, 10, 11, 12, 13], 50);
 }
 
 #[test]
 fn parts_of_random_bytes() {
-    let mut random = Random(18);
     let mut met = Met::default();
-    for n in few_pins() {
-        for levels in many_levels(n, &mut random) {
-            for ones in [1, 3, 8, 13] {
-                let mut levels = levels.clone();
-                fill_parts(&mut levels, ones, &mut random);
-                check_damaged(&image(n, &levels), &mut met, &mut random);
-            }
-        }
-    }
+    random_parts(&mut Random(18), |strip, random| {
+        check_damaged(strip, &mut met, random);
+    });
     met.require(&[9, 10, 11, 12], 100);
 }
 
@@ -760,23 +692,14 @@ fn parts_of_random_bytes() {
 fn damage_in_long_lists() {
     let mut random = Random(19);
     let mut met = Met::default();
+    let mut test = |strip: &[u8], random: &mut Random| check_damaged(strip, &mut met, random);
     // The reference is slow in chunked levels of long lists, and quick in fixed widths.
     let least_width = |_: usize, values: &[u32]| {
         let holds = |&code: &u8| size(values, code).is_some();
         (0..=32).find(holds).expect("width 32 holds every level")
     };
-    for n in [1000, 3000, 40_000, PINS] {
-        let times = rising(n, || random.skewed() & random.of_width(14));
-        let levels = match n {
-            ..=3000 => parts_of_values(&stored(&times), chosen),
-            _ => parts_of_values(&stored(&times), least_width),
-        };
-        for round in 0..12 {
-            let mut levels = levels.clone();
-            damage_level(&mut levels, round, &mut random);
-            check_damaged(&image(n, &levels), &mut met, &mut random);
-        }
-    }
+    damaged_levels(&[1000, 3000], chosen, &mut random, &mut test);
+    damaged_levels(&[40_000, PINS], least_width, &mut random, &mut test);
     met.require(&[9, 11], 5);
 }
 
@@ -811,24 +734,15 @@ fn damage_in_chunked_levels_of_the_longest_list() {
 
 #[test]
 fn lengths_whose_sum_would_wrap() {
-    let mut random = Random(21);
-    for n in few_pins().chain([1000, 40_000, PINS]).filter(|&n| n > 1) {
-        let times = rising(n, || random.of_width(3));
-        for strip in wrapping_lengths(&times, &mut random) {
-            Strip(&strip).check_refused(13, 0);
-        }
-    }
+    wrapping_sums(&mut Random(21), |strip| Strip(strip).check_refused(13, 0));
 }
 
 #[test]
 fn random_headers() {
-    let mut random = Random(22);
     let mut met = Met::default();
-    let counts = around_powers(PINS);
-    for _ in 0..20_000 {
-        let strip = random_strip(&counts, &mut random);
-        check_damaged(&strip, &mut met, &mut random);
-    }
+    random_strips(&mut Random(22), |strip, random| {
+        check_damaged(strip, &mut met, random);
+    });
     met.require(&[1, 5, 6, 7, 8, 9, 10, 11, 12, 13], 100);
 }
 

@@ -4,7 +4,7 @@
 use std::fmt::Debug;
 
 use gemcotton_tests::lists::{
-    around_powers, few_lists, few_pins, rising, some_positions, targets, Answers,
+    around_powers, falling_lists, few_lists, few_pins, rising, some_positions, targets, Answers,
 };
 use gemcotton_tests::parts::{any_code, chains, chosen, chunks, part_of_chunks};
 use gemcotton_tests::random::Random;
@@ -14,8 +14,8 @@ use gemcotton_tests::reference::tree::{
     height, nodes_of_level, parts_of_values, rank, root_place, stored, values_of_level, HEIGHT,
 };
 use gemcotton_tests::strips::{
-    change_bytes, changed_b, damage_level, faulty, fill_parts, many_levels, pins, random_strip,
-    small_strips, surrounded, wrapping_lengths, A, B, TIMES_A,
+    changed_b, changes_of_bytes, changes_of_one_byte, cuts_and_bytes_added, damaged_levels, faulty,
+    pins, random_parts, random_strips, surrounded, wrapping_sums, A, B, TIMES_A,
 };
 use gemcotton_tests::tally::Tally;
 use gemcotton_tests::{proved, straightforward};
@@ -284,30 +284,13 @@ fn lists_that_are_too_long() {
     }
 }
 
-/// Lists of n that fall at i, there alone or later too.
-fn falling(n: usize, i: usize, random: &mut Random) -> [Vec<u32>; 2] {
-    let mut times = rising(n, || 1 + random.of_width(3));
-    // By one, or as far as can be.
-    times[i] = [times[i - 1] - 1, 0][random.below(2)];
-    let mut later = times.clone();
-    later[i + 1..].fill_with(|| random.of_width(6));
-    [times, later]
-}
-
 #[test]
 fn lists_that_fall() {
     let mut random = Random(4);
     for n in (2..=40).chain([1000, 32_768, PINS - 1, PINS]) {
-        let mut positions: Vec<usize> = match n {
-            2..=40 => (1..n).collect(),
-            _ => [1, 2, 3, n / 2, n - 2, n - 1].to_vec(),
-        };
-        positions.push(1 + random.below(n - 1));
-        for i in positions {
-            for times in falling(n, i, &mut random) {
-                for room in [0, 20, ample(n)] {
-                    assert_eq!(check_pack(&times, room), refused(3, i));
-                }
+        for (times, i) in falling_lists(n, &mut random) {
+            for room in [0, 20, ample(n)] {
+                assert_eq!(check_pack(&times, room), refused(3, i));
             }
         }
     }
@@ -465,117 +448,60 @@ fn refusals_at_every_level() {
 
 #[test]
 fn every_change_of_one_byte() {
-    let mut random = Random(9);
     let mut tally = Tally::default();
-    for mut strip in small_strips(&mut random) {
-        for place in 0..strip.len() {
-            for change in 1..=255 {
-                strip[place] ^= change;
-                check_damaged(&strip, &mut tally, &mut random);
-                strip[place] ^= change;
-            }
-        }
-    }
+    changes_of_one_byte(&mut Random(9), |strip, random| {
+        check_damaged(strip, &mut tally, random);
+    });
     tally.require(&[0, 5, 6, 7, 8, 9, 10, 13, 14], 1000);
     tally.require(&[1], 10);
 }
 
 #[test]
 fn every_cut_and_bytes_added() {
-    let mut random = Random(10);
-    for n in few_pins() {
-        for levels in many_levels(n, &mut random) {
-            let mut strip = image(n, &levels);
-            let (length, header) = (strip.len(), 7 + 5 * height(n));
-            for cut in 0..length {
-                let number = if cut < header { 5 } else { 13 };
-                // Where a call read on past the cut, it would find the rest.
-                let cut = Strip(&strip[..cut]);
-                assert_eq!(cut.access(random.below(n + 2)), refused(number, 0));
-                assert_eq!(cut.search(random.skewed()), refused(number, 0));
-                assert_eq!(cut.up_to(!random.skewed()), refused(number, 0));
-            }
-            for more in [1, 1, 2, 7, 255, 256, 1000] {
-                strip.truncate(length);
-                strip.extend(random.dense_bytes(more, 16 * (more % 2)));
-                Strip(&strip).check_refused(13, 0);
-            }
-        }
-    }
+    cuts_and_bytes_added(&mut Random(10), |strip, number| {
+        Strip(strip).check_refused(number, 0);
+    });
 }
 
 #[test]
 fn changed_bytes() {
-    let mut random = Random(11);
     let mut tally = Tally::default();
-    for n in few_pins() {
-        for levels in many_levels(n, &mut random) {
-            let strip = image(n, &levels);
-            for round in 0..4 {
-                let mut strip = strip.clone();
-                // In half of the rounds the header stays whole, if there are other bytes.
-                let header = (7 + 5 * height(n)).min(strip.len() - 1);
-                let from = round % 2 * header;
-                change_bytes(&mut strip, from, &mut random);
-                check_damaged(&strip, &mut tally, &mut random);
-            }
-        }
-    }
+    changes_of_bytes(&mut Random(11), |strip, random| {
+        check_damaged(strip, &mut tally, random);
+    });
     tally.require(&[0, 5, 6, 7, 8, 9, 10, 13, 14], 500);
 }
 
 #[test]
 fn parts_of_random_bytes() {
-    let mut random = Random(12);
     let mut tally = Tally::default();
-    for n in few_pins() {
-        for levels in many_levels(n, &mut random) {
-            for ones in [1, 3, 8, 13] {
-                let mut levels = levels.clone();
-                fill_parts(&mut levels, ones, &mut random);
-                check_damaged(&image(n, &levels), &mut tally, &mut random);
-            }
-        }
-    }
+    random_parts(&mut Random(12), |strip, random| {
+        check_damaged(strip, &mut tally, random);
+    });
     tally.require(&[0, 9, 10, 14], 1000);
 }
 
 #[test]
 fn damage_in_long_lists() {
-    let mut random = Random(13);
     let mut tally = Tally::default();
-    for n in [1000, 6144, 40_000, PINS] {
-        let times = rising(n, || random.skewed() & random.of_width(14));
-        let levels = parts_of_values(&stored(&times), chosen);
-        for round in 0..12 {
-            let mut levels = levels.clone();
-            damage_level(&mut levels, round, &mut random);
-            check_damaged(&image(n, &levels), &mut tally, &mut random);
-        }
-    }
+    let counts = [1000, 6144, 40_000, PINS];
+    damaged_levels(&counts, chosen, &mut Random(13), |strip, random| {
+        check_damaged(strip, &mut tally, random);
+    });
     tally.require(&[0, 9, 10, 14], 50);
 }
 
 #[test]
 fn lengths_whose_sum_would_wrap() {
-    let mut random = Random(14);
-    for n in few_pins().chain([1000, 40_000, PINS]).filter(|&n| n > 1) {
-        let times = rising(n, || random.of_width(3));
-        for strip in wrapping_lengths(&times, &mut random) {
-            Strip(&strip).check_refused(13, 0);
-        }
-    }
+    wrapping_sums(&mut Random(14), |strip| Strip(strip).check_refused(13, 0));
 }
 
 #[test]
 fn random_headers() {
-    let mut random = Random(15);
     let mut tally = Tally::default();
-    let counts = around_powers(PINS);
-    for _ in 0..20_000 {
-        let strip = random_strip(&counts, &mut random);
-        check_damaged(&strip, &mut tally, &mut random);
-    }
+    random_strips(&mut Random(15), |strip, random| {
+        check_damaged(strip, &mut tally, random);
+    });
     tally.require(&[0, 1, 5, 6, 7, 8, 9, 10, 13, 14], 1000);
 }
 

@@ -12,6 +12,7 @@ pub mod Orders
 pub mod Paths
 pub mod Promises
 pub mod Ranks
+pub mod Remembering
 pub mod Shifts
 pub mod Steps
 pub mod Stretches

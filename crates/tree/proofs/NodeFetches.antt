@@ -34,12 +34,15 @@ pub record Level (at : Levels) (s : List ℕ) (d : ℕ) : Type 0 where
   pub inside : getD (at .ends) (d + 1) 0 ≤ length s
   pub short : getD (at .ends) (d + 1) 0 - getD (at .ends) d 0 < 4294967296
 
+pub pins-bound : (at : Levels) (s : List ℕ) → Fits at s → at .pins < 65536
+pins-bound at s f = omega (arith, height-bound (at .pins), pow-mono (f .height-fits))
+
 pub level-fits : (at : Levels) (s : List ℕ) (d v : ℕ) → Fits at s → 2 ^ d ≤ v → v ≤ at .pins → Level at s d
 level-fits at s d v f lo hi =
     let h = height-above (at .pins) d (omega arith) in
     record {
       deep = omega (arith, f .height-fits);
-      few = omega (arith, height-bound (at .pins), pow-mono (f .height-fits));
+      few = pins-bound at s f;
       in-order = f .in-order d h;
       inside = f .inside d h;
       short = f .short d h;

@@ -1,8 +1,8 @@
--- One step of access and of search, as their loops make it.
+-- One step of access and of a target, as their loops make it.
 use mathlib.Core.Path.{_≡_, sym, ap, _∙_}
 use mathlib.Core.Bool.{Bool, cond}
-use mathlib.Core.List.{List}
-use Prim.Native.Nat.{ℕ, suc, _+_, _-_, _^_, _≤_, _<_, min}
+use mathlib.Core.List.{List, _∷_}
+use Prim.Native.Nat.{ℕ, suc, _+_, _-_, _/_, _^_, _≤_, _<_, min}
 use native.Mathlib.Nat.{zero-add, le-refl}
 use native.Mathlib.Numerals.{add-one}
 use native.Mathlib.Decide.{decLt}
@@ -13,18 +13,33 @@ use borrow.Author.Tests.{lt-ltb, le-ltb, eq-eqb, ne-eqb}
 use Rattle.codes.specs.Fetch.{fetched}
 use Rattle.tree.specs.declared.shape.Stretch.{Stretch}
 use Rattle.tree.specs.declared.nodes.Levels.{Levels}
-use Rattle.tree.specs.Shape.{rootPlace, childOf, sideOf, stretch, rank}
+use Rattle.tree.specs.Shape.{height, rootPlace, childOf, sideOf, stretch, rank}
 use Rattle.tree.specs.Levels.{fetchedAt, Fits}
 use Rattle.tree.specs.Times.{Time, at, refused, under, known, nodeTime}
-use Rattle.tree.specs.Walks.{walk, Answer, found, stopped, met, towardFrom, toward, lastOf, accessAnswer, never, lastLeft, searchAnswer}
+use Rattle.tree.specs.Walks.{Answer, found, stopped, met, towardFrom, toward, lastOf, accessAnswer, never, below, searchNodes, remember, position, keptFrom, targetFrom}
 use Rattle.tree.specs.Standing.{Stands, accessFrom}
-use Rattle.tree.proofs.Heights.{place-in}
+use Rattle.tree.proofs.Heights.{digits, place-in}
 use Rattle.tree.proofs.Stretches.{stretch-root, stretch-child, side-in, pins-of-node, node-of-pins}
 use Rattle.tree.proofs.NodeTimes.{time-above, time-step}
 use Rattle.tree.proofs.NodeFetches.{fetched-at, Level, level-fits}
 use Rattle.tree.proofs.Walks.{child-bounds, parent-of, walk-out, walk-on, toward-on, met-fine, met-refused}
 
 -- ---- where a walk stands
+
+-- at a node, by its number
+pub stands-at : (levels : Levels) (s : List ℕ) (v : ℕ) (here : Stretch) (above : ℕ) → 1 ≤ v → stretch (levels .pins) v ≡ here
+    → here .start + here .pins ≤ levels .pins → nodeTime (fetchedAt levels s) (v / 2) ≡ at above → Stands levels s v (height v - 1) here above
+stands-at levels s v here above h e i p =
+    let d = digits v h in
+    let top : height v - 1 ≡ d .top = omega (arith, d .is) in
+    record {
+      one = h;
+      low = rw top (d .least);
+      high = rw top (omega (arith, d .below));
+      under = e;
+      inside = i;
+      parent = p;
+    }
 
 pub stands-root : (levels : Levels) (s : List ℕ) → Stands levels s 1 0 (record { start = 0; pins = levels .pins }) 0
 stands-root levels s = record {
@@ -35,6 +50,9 @@ stands-root levels s = record {
   inside = omega arith;
   parent = time-above (fetchedAt levels s);
 }
+
+pub stands-first : (levels : Levels) (s : List ℕ) → Stands levels s 1 (height 1 - 1) (record { start = 0; pins = levels .pins }) 0
+stands-first levels s = let w = stands-root levels s in stands-at levels s 1 _ 0 (w .one) (w .under) (w .inside) (w .parent)
 
 module _ {levels : Levels} {s : List ℕ} {v depth : ℕ} {here : Stretch} {above : ℕ} (w : Stands levels s v depth here above) where
   pub stands-pins : v ≤ levels .pins → 1 ≤ here .pins
@@ -76,39 +94,40 @@ module _ {levels : Levels} {s : List ℕ} {v depth : ℕ} {here : Stretch} {abov
         parent = rw (parent-of right v) e;
       }
 
--- ---- search
-
--- what a search answers that goes on from node v, with position p so far and k nodes opened
-abbrev pub searchFrom : ℕ → (ℕ → Time) → ℕ → ℕ → ℕ → ℕ → Answer
-searchFrom n time t p k v =
-    let past : ℕ → Bool = λ u. ltb (known (time u)) t in
-    let nodes = walk n never past v in
-    met time (found (lastLeft n past p nodes) (k + length nodes)) nodes
+-- ---- a target
 
 module _ (n : ℕ) (time : ℕ → Time) (t : ℕ) where
-  pub search-start : searchAnswer n time t ≡ searchFrom n time t n 0 1
-  unfolding searchAnswer
-  search-start = rw zero-add
+  pub kept-end : (kept : List ℕ) (v : ℕ) → n < v → keptFrom n time t kept v ≡ kept
+  unfolding remember
+  kept-end kept v h = rw (walk-out n never (below time t) v h)
 
-  pub search-end : (p k v : ℕ) → n < v → searchFrom n time t p k v ≡ found p k
-  unfolding lastLeft met
-  search-end p k v h = rw (walk-out n never (λ u. ltb (known (time u)) t) v h) (ap (found p) (omega arith))
+  pub target-end : (kept : List ℕ) (k v : ℕ) → n < v → targetFrom n time t kept k v ≡ found (position n kept) k
+  unfolding targetFrom remember met
+  target-end kept k v h = rw (walk-out n never (below time t) v h) (ap (found (position n kept)) (omega arith))
 
-  pub search-refused : (p k v r u : ℕ) → 1 ≤ v → v ≤ n → time v ≡ refused r u → searchFrom n time t p k v ≡ stopped r u
-  search-refused p k v r u h l e =
-      rw (walk-on n never (λ u. ltb (known (time u)) t) v h l) (met-refused time _ v r u _ e)
+  pub target-refused : (kept : List ℕ) (k v r u : ℕ) → 1 ≤ v → v ≤ n → time v ≡ refused r u → targetFrom n time t kept k v ≡ stopped r u
+  unfolding targetFrom
+  target-refused kept k v r u h l e = rw (walk-on n never (below time t) v h l) (met-refused time _ v r u _ e)
 
-  pub search-step : (p k v x : ℕ) → 1 ≤ v → v ≤ n → time v ≡ at x
-      → searchFrom n time t p k v ≡ searchFrom n time t (cond (ltb x t) p (rank n v)) (k + 1) (childOf (ltb x t) v)
-  unfolding lastLeft
-  search-step p k v x h l e =
-      let past : ℕ → Bool = λ u. ltb (known (time u)) t in
-      let on : Bool → ℕ → Answer = λ b j.
-      met time (found (lastLeft n past (cond b p (rank n v)) (walk n never past (childOf b v))) j) (walk n never past (childOf b v)) in
-      let m = length (walk n never past (childOf (ltb x t) v)) in
-      let j : k + suc m ≡ k + 1 + m = omega arith in
-      rw (walk-on n never past v h l)
-      (met-fine time _ v x _ e ∙ ap (λ (z : Time). on (ltb (known z) t) (k + suc (length (walk n never past (childOf (ltb (known z) t) v))))) e ∙ ap (on (ltb x t)) j)
+  -- at a node with time x
+  module _ (kept : List ℕ) (v x : ℕ) (h : 1 ≤ v) (l : v ≤ n) (e : time v ≡ at x) where
+    pub kept-step : keptFrom n time t kept v ≡ keptFrom n time t (cond (ltb x t) kept (v ∷ kept)) (childOf (ltb x t) v)
+    unfolding remember
+    kept-step =
+        rw (walk-on n never (below time t) v h l)
+        (ap (λ (z : Time). keptFrom n time t (cond (ltb (known z) t) kept (v ∷ kept)) (childOf (ltb (known z) t) v)) e)
+
+    pub target-step : (k : ℕ) → targetFrom n time t kept k v ≡ targetFrom n time t (cond (ltb x t) kept (v ∷ kept)) (k + 1) (childOf (ltb x t) v)
+    unfolding targetFrom
+    target-step k =
+        let on : List ℕ → ℕ → ℕ → Answer = λ us p j. met time (found p j) us in
+        let later : Time → List ℕ = λ z. searchNodes n time t (childOf (ltb (known z) t) v) in
+        let m = length (later (at x)) in
+        let j : k + suc m ≡ k + 1 + m = omega arith in
+        ap (λ (p : ℕ). met time (found p (k + length (searchNodes n time t v))) (searchNodes n time t v)) (ap (position n) kept-step)
+        ∙ rw (walk-on n never (below time t) v h l)
+        (met-fine time _ v x _ e ∙ ap (λ (z : Time). on (later z) (position n (keptFrom n time t (cond (ltb x t) kept (v ∷ kept)) (childOf (ltb x t) v))) (k + suc (length (later z)))) e
+        ∙ ap (on (later (at x)) _) j)
 
 -- ---- access
 

@@ -31,7 +31,7 @@ child-half v = elim (ℕ-discrete (v % 2) 1) [
   | no e ↦ rw (ne-eqb (v % 2) 1 e) (omega arith)
 ]
 
-height-child : (right : Bool) (v : ℕ) → 1 ≤ v → height (childOf right v) ≡ suc (height v)
+pub height-child : (right : Bool) (v : ℕ) → 1 ≤ v → height (childOf right v) ≡ suc (height v)
 height-child right v h = height-step (childOf right v) (omega (arith, child-bounds right v)) ∙ rw (parent-of right v)
 
 module _ (n : ℕ) (stop past : ℕ → Bool) where

@@ -1,5 +1,5 @@
--- What the tree means. A reader of the public contracts needs Shape, Lists, Stored, Levels, Times, Walks, Buffers and Listing;
--- Marked has lists with what their nodes store, Promises what is shown besides the contracts. Filled and Standing are cited by
+-- What the tree means. A reader of the public contracts needs Shape, Lists, Stored, Levels, Times, Walks, Sweeps, Buffers and Listing;
+-- Marked has lists with what their nodes store, Promises what is shown besides the contracts. Filled, Standing and Remembering are cited by
 -- private functions alone.
 pub mod Shape
 pub mod Lists
@@ -7,9 +7,11 @@ pub mod Stored
 pub mod Levels
 pub mod Times
 pub mod Walks
+pub mod Sweeps
 pub mod Buffers
 pub mod Listing
 pub mod Marked
 pub mod Promises
 pub mod Filled
 pub mod Standing
+pub mod Remembering

@@ -57,7 +57,7 @@ pub record Contents : Type 0 where
 -- goes on after an equal time, and counts them. Nothing is refused.
 pub record SearchFinds : Type 0 where
   pub nodes : (levels : Levels) (s xs : List ℕ) → Held levels s xs → (t : ℕ)
-      → searchNodes (levels .pins) (nodeTime (fetchedAt levels s)) t ≡ path xs t
+      → searchNodes (levels .pins) (nodeTime (fetchedAt levels s)) t 1 ≡ path xs t
   pub answer : (levels : Levels) (s xs : List ℕ) → Held levels s xs → (t : ℕ)
       → searchAnswer (levels .pins) (nodeTime (fetchedAt levels s)) t ≡ found (smaller t xs) (length (path xs t))
 

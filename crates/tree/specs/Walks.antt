@@ -1,7 +1,7 @@
 -- Walks from the root down: the nodes that they open, and what access and search answer.
 use mathlib.Core.Bool.{Bool, false, cond}
 use mathlib.Core.List.{List, [], _∷_}
-use Prim.Native.Nat.{ℕ, zero, suc, _-_, _/_}
+use Prim.Native.Nat.{ℕ, zero, suc, _+_, _-_, _/_}
 use lib.Dec.{eqb, ltb}
 use lib.ListN.{length}
 use Rattle.tree.specs.declared.walking.Accessed.{Accessed}
@@ -66,20 +66,37 @@ accessed (access.Refused r) = stopped (numberOf r) (nodeOf r)
 abbrev pub never : ℕ → Bool
 never v = false
 
--- the rank of the last of these nodes that was left by its left side, or d
-unfoldable pub lastLeft : ℕ → (ℕ → Bool) → ℕ → List ℕ → ℕ
-lastLeft n past d [] = d
-lastLeft n past d (v ∷ vs) = lastLeft n past (cond (past v) d (rank n v)) vs
+-- the node's time is below t
+abbrev pub below : (ℕ → Time) → ℕ → ℕ → Bool
+below time t v = ltb (known (time v)) t
 
--- from the root, left where the node's time is at or above t, else right, until no child
-abbrev pub searchNodes : ℕ → (ℕ → Time) → ℕ → List ℕ
-searchNodes n time t = walk n never (λ v. ltb (known (time v)) t) 1
+-- from node v, left where the node's time is at or above t, else right, until no child
+abbrev pub searchNodes : ℕ → (ℕ → Time) → ℕ → ℕ → List ℕ
+searchNodes n time t v = walk n never (below time t) v
 
--- the position is the rank of the last node left by its left side, or n
-unfoldable pub searchAnswer : ℕ → (ℕ → Time) → ℕ → Answer
-searchAnswer n time t =
-    let nodes = searchNodes n time t in
-    met time (found (lastLeft n (λ v. ltb (known (time v)) t) n nodes) (length nodes)) nodes
+-- the nodes left by their left side, the deepest first, then those remembered before
+unfoldable pub remember : (ℕ → Bool) → List ℕ → List ℕ → List ℕ
+remember past [] kept = kept
+remember past (v ∷ vs) kept = remember past vs (cond (past v) kept (v ∷ kept))
+
+-- the rank of the last node left by its left side, which is the deepest remembered, or n
+abbrev pub position : ℕ → List ℕ → ℕ
+position n [] = n
+position n (v ∷ vs) = rank n v
+
+-- what target t leaves remembered that goes on from node v, with these nodes remembered before
+abbrev pub keptFrom : ℕ → (ℕ → Time) → ℕ → List ℕ → ℕ → List ℕ
+keptFrom n time t kept v = remember (below time t) (searchNodes n time t v) kept
+
+-- what it answers, with k nodes opened before
+unfoldable pub targetFrom : ℕ → (ℕ → Time) → ℕ → List ℕ → ℕ → ℕ → Answer
+targetFrom n time t kept k v =
+    let nodes = searchNodes n time t v in
+    met time (found (position n (keptFrom n time t kept v)) (k + length nodes)) nodes
+
+-- from the root
+abbrev pub searchAnswer : ℕ → (ℕ → Time) → ℕ → Answer
+searchAnswer n time t = targetFrom n time t [] 0 1
 
 abbrev pub searched : Searched → Answer
 searched (search.Position p k) = found p k

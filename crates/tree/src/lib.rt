@@ -3,6 +3,8 @@ mod building; // the stored values of a list, in node order
 mod listing; // the times at all positions
 mod nodes; // where the levels stand in a strip; one node's stored value and time
 mod shape; // height, root place, stretches and ranks
+mod sweeping; // sweep
+mod targets; // one target, from a node down
 mod walking; // access and search
 
 pub use building::construct;
@@ -16,6 +18,8 @@ pub use shape::Ranked;
 pub use shape::height;
 pub use shape::rank;
 pub use shape::root_place;
+pub use sweeping::Swept;
+pub use sweeping::sweep;
 pub use walking::Accessed;
 pub use walking::Searched;
 pub use walking::access;

@@ -7,6 +7,10 @@ use super::shape::Stretch;
 use super::shape::child_of;
 use super::shape::root_place;
 use super::shape::side_of;
+use super::targets::Ending;
+use super::targets::go_down;
+use super::targets::nothing_kept;
+use super::targets::position_of;
 ghost use mathlib.Core.Path.{_≡_};
 ghost use Prim.Native.Nat.{_<_};
 ghost use Rattle.tree.specs.Levels.{Fits, fetchedAt};
@@ -69,36 +73,14 @@ pub fn search(s: &[u8], levels: Levels, target: u32) -> Searched
     requires { ⌜ Fits levels (now s) ⌝ }
     ensures { λ r. ⌜ searched r ≡ searchAnswer (levels .pins) (nodeTime (fetchedAt levels (now (s .entry)))) target ⌝ }
 {
-    let mut v: usize = 1;
-    let mut depth: usize = 0;
-    let mut here = Stretch {
+    let here = Stretch {
         start: 0,
         pins: levels.pins,
     };
-    let mut time: u32 = 0;
-    let mut nodes: usize = 0;
-    let mut position = levels.pins;
-    while v <= levels.pins {
-        let start = levels.ends[depth];
-        let end = levels.ends[depth + 1];
-        let code = levels.codes[depth];
-        nodes += 1;
-        let opened = open_node(&s[start..end], code, levels.pins, depth, v, time);
-        match opened {
-            Opened::Time(t) => {
-                time = t;
-            }
-            Opened::Refused(r) => {
-                return Searched::Refused(r);
-            }
-        }
-        let place = root_place(here.pins);
-        if time >= target {
-            position = here.start + place - 1;
-        }
-        here = side_of(here, place, time < target);
-        v = child_of(v, time < target);
-        depth += 1;
+    let walked = go_down(s, levels, nothing_kept(), target, 1, here, 0, 0);
+    let ending = walked.ending;
+    match ending {
+        Ending::Opened(nodes) => Searched::Position(position_of(walked.kept, levels.pins), nodes),
+        Ending::Refused(r) => Searched::Refused(r),
     }
-    Searched::Position(position, nodes)
 }

@@ -6,7 +6,7 @@
 //! breaks the C header's promises.
 //!
 //! ```
-//! use gemcotton::{access, check, pack, repeat, search, unpack, up_to, Refusal};
+//! use gemcotton::{access, check, pack, repeat, search, sweep, unpack, up_to, Refusal};
 //!
 //! let mut out = [0; 64];
 //! let length = pack(&mut out, &[100, 250, 250, 400, 1000])?;
@@ -18,6 +18,10 @@
 //! assert_eq!(search(strip, 251)?.position, 3);
 //! assert_eq!(up_to(strip, 250)?.strikes, 3);
 //! assert_eq!(access(strip, 5), Err(Refusal::Position));
+//! // Three searches in one walk.
+//! let mut positions = [0; 3];
+//! sweep(&mut positions, strip, &[250, 251, 1001])?;
+//! assert_eq!(positions, [1, 3, 5]);
 //!
 //! // The strip is that of a list, which can be read back.
 //! assert_eq!(check(strip)?, 5);
@@ -108,6 +112,13 @@ pub enum Refusal {
     Length,
     /// 14: the position is not below the pin count.
     Position,
+    /// 15: there are not as many answers as targets.
+    Answers,
+    /// 16: the targets fall.
+    TargetsFall {
+        /// The first index with a lower target than the one before.
+        index: usize,
+    },
 }
 
 impl Refusal {
@@ -128,6 +139,8 @@ impl Refusal {
             (12, 0) => Refusal::Image,
             (13, 0) => Refusal::Length,
             (14, 0) => Refusal::Position,
+            (15, 0) => Refusal::Answers,
+            (16, index) => Refusal::TargetsFall { index },
             _ => return None,
         })
     }
@@ -149,16 +162,20 @@ impl Refusal {
             Refusal::Image => 12,
             Refusal::Length => 13,
             Refusal::Position => 14,
+            Refusal::Answers => 15,
+            Refusal::TargetsFall { .. } => 16,
         }
     }
 
-    /// What this refusal carries in 01: a position, bytes or entries, a level or a node, else 0.
+    /// What this refusal carries in 01: a position, bytes or entries, a level, a node or an index,
+    /// else 0.
     pub fn carried(&self) -> usize {
         match *self {
             Refusal::ListFalls { position } | Refusal::TimesFall { position } => position,
             Refusal::Short { needed } => needed,
             Refusal::Code { level } => level,
             Refusal::Fetch { node } | Refusal::Time { node } => node,
+            Refusal::TargetsFall { index } => index,
             Refusal::Empty
             | Refusal::TooMany
             | Refusal::Cut
@@ -166,7 +183,8 @@ impl Refusal {
             | Refusal::Version
             | Refusal::Image
             | Refusal::Length
-            | Refusal::Position => 0,
+            | Refusal::Position
+            | Refusal::Answers => 0,
         }
     }
 }
@@ -192,6 +210,8 @@ impl fmt::Display for Refusal {
             Refusal::Image => write!(f, "the strip is not what its list packs to"),
             Refusal::Length => write!(f, "the strip's length is not its header and parts"),
             Refusal::Position => write!(f, "the position is not below the pin count"),
+            Refusal::Answers => write!(f, "there are not as many answers as targets"),
+            Refusal::TargetsFall { index } => write!(f, "the targets fall at index {index}"),
         }
     }
 }
@@ -238,6 +258,7 @@ struct Answer {
 const PACK: [usize; 4] = [1, 2, 3, 4];
 const ACCESS: [usize; 9] = [5, 6, 7, 1, 8, 13, 14, 9, 10];
 const SEARCH: [usize; 8] = [5, 6, 7, 1, 8, 13, 9, 10];
+const SWEEP: [usize; 10] = [5, 6, 7, 1, 8, 13, 15, 16, 9, 10];
 const CHECK: [usize; 10] = [5, 6, 7, 1, 8, 13, 9, 10, 11, 12];
 const UNPACK: [usize; 11] = [5, 6, 7, 1, 8, 13, 9, 10, 11, 12, 4];
 const REPEAT: [usize; 9] = [5, 6, 7, 1, 8, 13, 9, 10, 11];
@@ -262,6 +283,14 @@ impl Answer {
         assert_eq!(nodes, 0, "the call counts no nodes");
         Ok(value)
     }
+
+    /// As `outcome`, of a call that gives the nodes alone.
+    #[inline]
+    fn nodes(self, numbers: &[usize]) -> Result<usize, Refusal> {
+        let (value, nodes) = self.outcome(numbers)?;
+        assert_eq!(value, 0, "the call gives the nodes alone");
+        Ok(nodes)
+    }
 }
 
 extern "C" {
@@ -276,6 +305,14 @@ extern "C" {
     fn gemcotton_access(strip: *const u8, strip_length: usize, i: usize) -> Answer;
     fn gemcotton_search(strip: *const u8, strip_length: usize, target: u32) -> Answer;
     fn gemcotton_up_to(strip: *const u8, strip_length: usize, time: u32) -> Answer;
+    fn gemcotton_sweep(
+        answers: *mut u32,
+        answers_length: usize,
+        strip: *const u8,
+        strip_length: usize,
+        targets: *const u32,
+        targets_length: usize,
+    ) -> Answer;
     fn gemcotton_check(strip: *const u8, strip_length: usize) -> Answer;
     fn gemcotton_unpack(
         out: *mut u32,
@@ -357,6 +394,53 @@ pub fn up_to(strip: &[u8], time: u32) -> Result<UpTo, Refusal> {
     Ok(UpTo { strikes, nodes })
 }
 
+/// Searches for targets, none less than the one before, in one walk. Writes to `answers` the
+/// position that [`search`] gives for each target, and gives the nodes opened in all: the different
+/// ones that those searches open. No targets open none.
+///
+/// That is said of a strip that some list packs to. On any other too, the first target goes as a
+/// search does, and the nodes left by their left side are remembered. Each later target drops
+/// remembered nodes from the deepest up while their time is below it, and goes on from the right
+/// child of the last dropped, if any. The position is that of the deepest remembered node, or the
+/// pin count.
+///
+/// Refused, with nothing written, as in [opening](crate#opening), then by
+/// [`Answers`](Refusal::Answers), then by [`TargetsFall`](Refusal::TargetsFall). Then refused by
+/// [`Fetch`](Refusal::Fetch) or [`Time`](Refusal::Time) at the first node that has it: the answers
+/// of the targets before the one that comes to it have been written, no others.
+///
+/// ```
+/// use gemcotton::{pack, sweep, Refusal};
+///
+/// let mut out = [0; 64];
+/// let length = pack(&mut out, &[100, 250, 250, 400, 1000])?;
+/// let strip = &out[..length];
+///
+/// let mut positions = [0; 3];
+/// assert_eq!(sweep(&mut positions, strip, &[250, 251, 1001])?, 5);
+/// assert_eq!(positions, [1, 3, 5]);
+/// assert_eq!(sweep(&mut positions, strip, &[250, 251]), Err(Refusal::Answers));
+/// let falls = Refusal::TargetsFall { index: 1 };
+/// assert_eq!(sweep(&mut positions[..2], strip, &[9, 8]), Err(falls));
+/// # Ok::<(), Refusal>(())
+/// ```
+#[inline]
+pub fn sweep(answers: &mut [u32], strip: &[u8], targets: &[u32]) -> Result<usize, Refusal> {
+    // SAFETY: the pointers and lengths are slices', so not null. Only `answers` is written, and
+    // it overlaps nothing.
+    let answer = unsafe {
+        gemcotton_sweep(
+            answers.as_mut_ptr(),
+            answers.len(),
+            strip.as_ptr(),
+            strip.len(),
+            targets.as_ptr(),
+            targets.len(),
+        )
+    };
+    answer.nodes(&SWEEP)
+}
+
 /// Gives the pin count of a strip that some list packs to, and refuses every other one.
 ///
 /// Refused as in [opening](crate#opening), then in
@@ -403,8 +487,8 @@ mod tests {
     use super::*;
     use std::panic::catch_unwind;
 
-    const NUMBERS: [usize; 14] = [1, 2, 3, 4, 5, 6, 7, 8, 9, 10, 11, 12, 13, 14];
-    const CARRYING: [usize; 6] = [3, 4, 8, 9, 10, 11];
+    const NUMBERS: [usize; 16] = [1, 2, 3, 4, 5, 6, 7, 8, 9, 10, 11, 12, 13, 14, 15, 16];
+    const CARRYING: [usize; 7] = [3, 4, 8, 9, 10, 11, 16];
 
     #[test]
     fn refusals_keep_their_number_and_what_they_carry() {
@@ -425,7 +509,15 @@ mod tests {
 
     #[test]
     fn answers_that_the_header_does_not_allow_panic() {
-        for call in [&PACK[..], &ACCESS, &SEARCH, &CHECK, &UNPACK, &REPEAT] {
+        for call in [
+            &PACK[..],
+            &ACCESS,
+            &SEARCH,
+            &SWEEP,
+            &CHECK,
+            &UNPACK,
+            &REPEAT,
+        ] {
             for refusal in 0..=20 {
                 for (value, nodes) in [(0, 0), (7, 0), (0, 1), (7, 3)] {
                     let answer = Answer {
@@ -441,11 +533,17 @@ mod tests {
                     let found = catch_unwind(|| answer.outcome(call)).ok();
                     assert_eq!(found, expected, "{answer:?}");
                     // Calls that count no nodes take the same answers without any.
-                    let expected = expected
+                    let without = expected
                         .filter(|_| nodes == 0)
                         .map(|found| found.map(|(value, _)| value));
                     let found = catch_unwind(|| answer.value(call)).ok();
-                    assert_eq!(found, expected, "{answer:?}");
+                    assert_eq!(found, without, "{answer:?}");
+                    // Those that give the nodes alone take refusals, and the value 0.
+                    let alone = expected
+                        .filter(|found| found.is_err() || value == 0)
+                        .map(|found| found.map(|(_, nodes)| nodes));
+                    let found = catch_unwind(|| answer.nodes(call)).ok();
+                    assert_eq!(found, alone, "{answer:?}");
                 }
             }
         }

@@ -1,6 +1,6 @@
 //! How long the proved functions take, as a multiple of the straightforward ones: below 1
 //! the proved ones are faster. Each number is the median over rounds that time both, one
-//! right after the other.
+//! right after the other. One line instead has the proved sweep as a multiple of proved searches.
 //!
 //! With two words, as `proved encode`, it times nothing and runs that one alone, ten times,
 //! for a tool that counts instructions; `proved none` runs nothing, for what all else takes.
@@ -9,7 +9,7 @@ use std::fmt::Debug;
 use std::hint::black_box;
 use std::time::Instant;
 
-use gemcotton_tests::lists::rising;
+use gemcotton_tests::lists::{rising, sorted};
 use gemcotton_tests::random::Random;
 use gemcotton_tests::reference::strip::PINS;
 use gemcotton_tests::reference::tree::levels_of;
@@ -17,8 +17,10 @@ use gemcotton_tests::reference::{kind, Kind};
 use gemcotton_tests::{proved, reference, straightforward};
 
 const COUNT: usize = 32_768;
+/// The targets of a sweep.
+const SWEPT: usize = 1000;
 const ROUNDS: usize = 1001;
-/// The rounds of calls that read all positions, which take long.
+/// The rounds of sweeps and of calls that read all positions, which take long.
 const FEW_ROUNDS: usize = 51;
 /// How often one function is run alone.
 const ALONE: usize = 10;
@@ -219,11 +221,12 @@ fn each<'a, Input: Copy, Output: PartialEq + Debug>(
     }
 }
 
-/// The longest list, and positions and targets in it.
+/// The longest list, positions and targets in it, and the targets of a sweep.
 struct Tune {
     times: Vec<u32>,
     positions: Vec<usize>,
     targets: Vec<u32>,
+    swept: Vec<u32>,
 }
 
 impl Tune {
@@ -234,13 +237,14 @@ impl Tune {
             (-8.0 * part.ln()).round() as u32
         });
         let last = times[PINS - 1] as usize;
-        let mut below = |limit| -> Vec<usize> { (0..300).map(|_| random.below(limit)).collect() };
-        let positions = below(PINS);
-        let targets = below(last + 2).into_iter().map(|t| t as u32).collect();
+        let positions = (0..300).map(|_| random.below(PINS)).collect();
+        let mut targets =
+            |count| -> Vec<u32> { (0..count).map(|_| random.below(last + 2) as u32).collect() };
         Tune {
             times,
             positions,
-            targets,
+            targets: targets(300),
+            swept: sorted(targets(SWEPT)),
         }
     }
 }
@@ -251,6 +255,7 @@ fn report_trees(alone: &Option<(Which, String)>, tune: &Tune, random: &mut Rando
         times,
         positions,
         targets,
+        ..
     } = tune;
     let (s, levels) = levels_of(times, |_, values| straightforward::choose(values).0);
     let mut below = |limit| -> Vec<usize> { (0..10_000).map(|_| random.below(limit)).collect() };
@@ -321,6 +326,37 @@ fn unpacks<'a>(strip: &'a [u8], times: &[u32]) -> impl FnMut(Which) + 'a {
     }
 }
 
+/// Both write the same buffer, which is not cleared between calls.
+fn sweeps<'a>(strip: &'a [u8], targets: &'a [u32]) -> impl FnMut(Which) + 'a {
+    let mut buffer = vec![0; targets.len()];
+    let nodes = straightforward::strip::sweep(strip, targets, &mut buffer);
+    let mut same = vec![0; targets.len()];
+    assert_eq!(proved::strip::sweep(strip, targets, &mut same), nodes);
+    assert!(buffer == same);
+    move |which| {
+        let (strip, targets) = black_box((strip, targets));
+        let out = black_box(&mut buffer[..]);
+        black_box(match which {
+            Which::Proved => proved::strip::sweep(strip, targets, out),
+            Which::Straightforward => straightforward::strip::sweep(strip, targets, out),
+        })
+        .expect("a list's strip and targets that do not fall");
+    }
+}
+
+/// The proved sweep stands on the proved side, and proved searches for its targets on the other.
+fn sweep_and_searches<'a>(strip: &'a [u8], targets: &'a [u32]) -> impl FnMut(Which) + 'a {
+    let mut sweep = sweeps(strip, targets);
+    move |which| match which {
+        Which::Proved => sweep(Which::Proved),
+        Which::Straightforward => {
+            for &t in black_box(targets) {
+                black_box(proved::strip::search(strip, t)).expect("a list's strip");
+            }
+        }
+    }
+}
+
 /// Lines for the strip.
 fn report_strips(alone: &Option<(Which, String)>, tune: &Tune) {
     let strip = reference::strip::pack(&tune.times, usize::MAX).expect("a list");
@@ -336,6 +372,12 @@ fn report_strips(alone: &Option<(Which, String)>, tune: &Tune) {
     let baseline = |t| straightforward::strip::search(&strip, t);
     let work = each(&tune.targets, proved, baseline);
     report(alone, "strip-search", &label, work);
+    let label = format!("sweep by {SWEPT} targets, {PINS} pins (buffer not cleared)");
+    let work = sweeps(&strip, &tune.swept);
+    report_rounds(alone, FEW_ROUNDS, "sweep", &label, work);
+    let label = format!("proved sweep / {SWEPT} proved searches for its targets");
+    let work = sweep_and_searches(&strip, &tune.swept);
+    report_rounds(alone, FEW_ROUNDS, "sweep-searches", &label, work);
 
     let label = format!("check, {PINS} pins");
     let strips = [&strip[..]];
@@ -362,7 +404,7 @@ fn main() {
     };
     if alone.is_none() {
         println!("time of proved / straightforward, median of {ROUNDS} rounds");
-        println!("({FEW_ROUNDS} rounds for check, unpack and repeat)");
+        println!("({FEW_ROUNDS} rounds for sweep, check, unpack and repeat)");
     }
     let mut random = Random(1);
     report_levels(&alone, &mut random);

@@ -33,6 +33,11 @@ pub fn up_to(strip: &[u8], t: u32) -> Result<(usize, usize), Refusal> {
 }
 
 #[inline]
+pub fn sweep(strip: &[u8], targets: &[u32], answers: &mut [u32]) -> Result<usize, Refusal> {
+    gemcotton::sweep(answers, strip, targets).map_err(refusal)
+}
+
+#[inline]
 pub fn check(strip: &[u8]) -> Result<usize, Refusal> {
     gemcotton::check(strip).map_err(refusal)
 }

@@ -166,6 +166,29 @@ pub fn up_to(strip: &[u8], t: u32) -> Result<(usize, usize), Refusal> {
     search(strip, t + 1)
 }
 
+/// "Sweep: 15, 16, then [...]. The result carries the nodes opened in all; no targets give 0."
+/// There are this many answers. Adds to `written` those that it writes, also before a refusal:
+/// "a sweep met by 9 or 10 has written the earlier targets' answers".
+pub fn sweep(
+    strip: &[u8],
+    targets: &[u32],
+    answers: usize,
+    written: &mut Vec<usize>,
+) -> Result<usize, Refusal> {
+    let levels = open(strip)?;
+    // 15: "answers and targets differ in length".
+    if answers != targets.len() {
+        return refused(15, 0);
+    }
+    // 16: "targets fall", with the "first lower index".
+    for index in 1..targets.len() {
+        if targets[index] < targets[index - 1] {
+            return refused(16, index);
+        }
+    }
+    Ok(tree::sweep(strip, &levels, targets, written)?)
+}
+
 /// The time that follows these, which are the strip's first ones. Check, unpack and repeat find
 /// "for i from 0, access's refusal, then 11".
 fn next(strip: &[u8], times: &[u32]) -> Result<u32, Refusal> {

@@ -236,3 +236,42 @@ pub fn search(s: &[u8], levels: &Levels, t: u32) -> Result<(usize, usize), Refus
     }
     Ok((position, nodes))
 }
+
+/// "The first target as search does, remembering the nodes left by their left side with their
+/// times. Each later target drops remembered nodes from the deepest up while their time is below
+/// it. If any dropped, it goes on from the right child of the last dropped. The position is the
+/// rank of the deepest remembered node, or n." Adds the positions to `written`, and gives "the
+/// nodes opened in all".
+pub fn sweep(
+    s: &[u8],
+    levels: &Levels,
+    targets: &[u32],
+    written: &mut Vec<usize>,
+) -> Result<usize, Refusal> {
+    let n = levels.pins;
+    // The deepest one last.
+    let mut remembered: Vec<(usize, u32)> = Vec::new();
+    let mut nodes = 0;
+    for (index, &t) in targets.iter().enumerate() {
+        let kept = remembered.iter().rposition(|&(_, time)| time >= t);
+        let dropped = remembered.split_off(kept.map_or(0, |deepest| deepest + 1));
+        // Where it begins or goes on, if it does.
+        let mut next = match dropped.first() {
+            Some(&(last, _)) => Some(2 * last + 1),
+            None => (index == 0).then_some(1),
+        };
+        while let Some(v) = next.filter(|&v| v <= n) {
+            let (time, _) = open(s, levels, v)?;
+            nodes += 1;
+            if time >= t {
+                remembered.push((v, time));
+                next = Some(2 * v);
+            } else {
+                next = Some(2 * v + 1);
+            }
+        }
+        let position = |&(v, _): &(usize, u32)| rank(n, v).expect("v is a node");
+        written.push(remembered.last().map_or(n, position));
+    }
+    Ok(nodes)
+}

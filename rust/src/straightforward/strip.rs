@@ -19,6 +19,12 @@ fn refusal(number: usize, carried: usize) -> Refusal {
     Refusal { number, carried }
 }
 
+/// The first index with a lower number than the one before, if these fall.
+fn first_lower(numbers: &[u32]) -> Option<usize> {
+    let before = numbers.windows(2).position(|pair| pair[1] < pair[0]);
+    before.map(|before| before + 1)
+}
+
 /// Writes the list's strip at the front of `out` and gives its length in bytes.
 #[inline(never)]
 pub fn pack(times: &[u32], out: &mut [u8]) -> Result<usize, Refusal> {
@@ -29,8 +35,8 @@ pub fn pack(times: &[u32], out: &mut [u8]) -> Result<usize, Refusal> {
     if n > PINS {
         return Err(refusal(2, 0));
     }
-    if let Some(before) = times.windows(2).position(|pair| pair[1] < pair[0]) {
-        return Err(refusal(3, before + 1));
+    if let Some(lower) = first_lower(times) {
+        return Err(refusal(3, lower));
     }
     let mut values = vec![0; n];
     store(&mut values, times);
@@ -129,6 +135,20 @@ pub fn up_to(strip: &[u8], t: u32) -> Result<(usize, usize), Refusal> {
         Some(next) => Ok(tree::search(strip, &levels, next)?),
         None => Ok((levels.pins, 0)),
     }
+}
+
+/// Writes the number of times below each target where the strip is a list's, and gives the nodes
+/// opened.
+#[inline(never)]
+pub fn sweep(strip: &[u8], targets: &[u32], answers: &mut [u32]) -> Result<usize, Refusal> {
+    let levels = open(strip)?;
+    if answers.len() != targets.len() {
+        return Err(refusal(15, 0));
+    }
+    if let Some(lower) = first_lower(targets) {
+        return Err(refusal(16, lower));
+    }
+    Ok(tree::sweep(strip, &levels, targets, answers)?)
 }
 
 /// The times in order, up to the first that is refused or lower than the one before.

@@ -6,7 +6,7 @@
 use std::iter;
 
 use super::fetch;
-use crate::reference::tree::{Levels, Refusal};
+use crate::reference::tree::{Levels, Refusal, HEIGHT};
 
 #[inline(never)]
 pub fn height(n: usize) -> usize {
@@ -135,6 +135,56 @@ pub fn search(s: &[u8], levels: &Levels, t: u32) -> Result<(usize, usize), Refus
         }
     }
     Ok((position, nodes))
+}
+
+/// A node left by its left side. Its right subtree's list has the positions after its own up to
+/// `end`.
+struct Left {
+    v: usize,
+    time: u32,
+    position: usize,
+    end: usize,
+}
+
+/// Writes what a search for each target gives, where the tree is a list's and the targets do not
+/// fall, and gives the nodes opened. There are as many answers as targets.
+#[inline(never)]
+pub fn sweep(
+    s: &[u8],
+    levels: &Levels,
+    targets: &[u32],
+    answers: &mut [u32],
+) -> Result<usize, Refusal> {
+    // The subtree to go down next, its list in the positions from `first` up to `end`.
+    let (mut first, mut end) = (0, levels.pins);
+    let (mut v, mut time, mut nodes) = (1, 0, 0);
+    let mut lefts: Vec<Left> = Vec::with_capacity(HEIGHT);
+    for (&t, answer) in targets.iter().zip(answers) {
+        while let Some(left) = lefts.pop_if(|left| left.time < t) {
+            (first, end) = (left.position + 1, left.end);
+            (v, time) = (2 * left.v + 1, left.time);
+        }
+        while first < end {
+            time = open(s, levels, v, time)?;
+            nodes += 1;
+            let position = first + place(end - first) - 1;
+            if time >= t {
+                lefts.push(Left {
+                    v,
+                    time,
+                    position,
+                    end,
+                });
+                end = position;
+                v *= 2;
+            } else {
+                first = position + 1;
+                v = 2 * v + 1;
+            }
+        }
+        *answer = lefts.last().map_or(levels.pins, |left| left.position) as u32;
+    }
+    Ok(nodes)
 }
 
 /// The times in order of positions, each node opened once. The first that is refused comes

@@ -1,0 +1,69 @@
+-- `left_by` meets its contract.
+use native.Mathlib.Omega.{arith}
+use Prim.Native.Nat.{_-_, _≤_}
+use mathlib.Core.Path.{_≡_, refl, sym, _∙_}
+use lib.ListN.{getD}
+use borrow.Author.Tests.{lt-ltb, le-ltb}
+use Rattle.tree.specs.Remembering.{leftBy}
+use Rattle.tree.proofs.Remembering.{left-step}
+use Rattle.tree.proofs.targets.left_by.Statement.{statement}
+use Rattle.tree.proofs.targets.left_by.Tie as tie
+use Rattle.tree.proofs.targets.left_by.Reads as reads
+use Rattle.tree.proofs.targets.left_by.Lts as lts
+
+abbrev Inv-loop : tie.InvT-loop
+Inv-loop target kept count₀ count = (count ≤ 16) × (leftBy (kept .times) target count ≡ leftBy (kept .times) target count₀)
+
+abbrev μ-loop : tie.MeasureT-loop
+μ-loop target kept count₀ count = count
+
+loop-holds : tie.Need-loop-holds Inv-loop μ-loop
+loop-holds c = (c .pre, refl)
+
+sub-if1 : tie.Need-sub-if1 Inv-loop μ-loop
+sub-if1 c = omega arith
+
+mul-if1 : tie.Need-mul-if1 Inv-loop μ-loop
+mul-if1 c = omega arith
+
+element-copy-out-if1 : tie.Need-element-copy-out-if1 Inv-loop μ-loop
+element-copy-out-if1 c = omega arith
+
+returns : tie.Need-returns Inv-loop μ-loop
+returns c =
+    let a = c .before .before .before .before .args in
+    let l = c .before .before .before .loop in
+    sym (left-step (a .t1 .times) (a .target) (l .count) (omega arith) ∙ rw (le-ltb (getD (a .t1 .times) (l .count - 1) 0) (a .target) (c .if1 .taken))) ∙ l .inv .1
+
+sub-count : tie.Need-sub-count Inv-loop μ-loop
+sub-count c = omega arith
+
+loop-less : tie.Need-loop-less Inv-loop μ-loop
+loop-less c = omega arith
+
+loop-again : tie.Need-loop-again Inv-loop μ-loop
+loop-again c =
+    let a = c .before .before .before .before .args in
+    let l = c .before .before .before .loop in
+    let step = left-step (a .t1 .times) (a .target) (l .count) (omega arith) in
+    (omega arith, sym (step ∙ rw (lt-ltb (getD (a .t1 .times) (l .count - 1) 0) (a .target) (omega (arith, c .if1 .left)))) ∙ l .inv .1)
+
+returns-2 : tie.Need-returns-2 Inv-loop μ-loop
+unfolding leftBy
+returns-2 c = let z : c .before .loop .count ≡ 0 = omega arith in rw z at (c .before .loop .inv .1)
+
+pub left-by-spec : {M : Type 1} → statement M
+left-by-spec =
+    tie.close
+    (tie.spec
+    Inv-loop
+    μ-loop
+    loop-holds
+    sub-if1
+    mul-if1
+    element-copy-out-if1
+    returns
+    sub-count
+    loop-less
+    loop-again
+    returns-2)

@@ -1,0 +1,27 @@
+-- `position_of` meets its contract.
+use native.Mathlib.Omega.{arith}
+use Rattle.tree.proofs.Remembering.{position-last}
+use borrow.Author.Needs.{needs}
+use Rattle.tree.proofs.targets.position_of.Statement.{statement}
+use Rattle.tree.proofs.targets.position_of.Tie as tie
+use Rattle.tree.proofs.targets.position_of.Reads as reads
+use Rattle.tree.proofs.targets.position_of.Lts as lts
+
+returns : tie.Need-returns
+returns c = search needs
+
+sub-result : tie.Need-sub-result
+sub-result c = search needs
+
+mul-result : tie.Need-mul-result
+mul-result c = search needs
+
+element-copy-out-result : tie.Need-element-copy-out-result
+element-copy-out-result c = search needs
+
+returns-2 : tie.Need-returns-2
+returns-2 c = position-last (c .before .before .args .t1 .ranks) (c .before .before .args .t1 .count) (c .before .before .args .n) (omega arith)
+
+pub position-of-spec : {M : Type 1} → statement M
+position-of-spec =
+    tie.close (tie.spec returns sub-result mul-result element-copy-out-result returns-2)

@@ -1,0 +1,112 @@
+-- The nodes that search and sweep remember, as the functions keep them in arrays.
+use mathlib.Core.Path.{_≡_}
+use mathlib.Core.Bool.{Bool, true, cond}
+use mathlib.Core.List.{List, [], _∷_}
+use Prim.Native.Nat.{ℕ, zero, suc, _+_, _-_, _≤_, _<_}
+use lib.Dec.{ltb}
+use lib.ListN.{length, getD, replicate}
+use Rattle.tree.specs.declared.shape.Stretch.{Stretch}
+use Rattle.tree.specs.declared.nodes.Levels.{Levels}
+use Rattle.tree.specs.declared.targets.Remembered.{Remembered}
+use Rattle.tree.specs.declared.targets.Walked.{Walked}
+use Rattle.tree.specs.declared.targets.Ending.{Ending}
+use Rattle.tree.specs.declared.targets.Ending.the-variants as ending
+use Rattle.tree.specs.Shape.{height, stretch, rank}
+use Rattle.tree.specs.Levels.{fetchedAt}
+use Rattle.tree.specs.Times.{at, nodeTime, numberOf, nodeOf}
+use Rattle.tree.specs.Walks.{Answer, found, stopped, below, keptFrom, targetFrom}
+use Rattle.tree.specs.Sweeps.{Dropped, dropped, Sweep, sweepFrom}
+
+abbrev pub nothing : Remembered
+nothing = record { count = 0; nodes = replicate 16 0; times = replicate 16 0; ranks = replicate 16 0 }
+
+-- the first c entries, the last first
+unfoldable pub entries : List ℕ → ℕ → List ℕ
+entries xs zero = []
+entries xs (suc c) = getD xs c 0 ∷ entries xs c
+
+-- the remembered nodes, the deepest first
+abbrev pub keptIn : Remembered → List ℕ
+keptIn w = entries (w .nodes) (w .count)
+
+-- the deepest one's rank, or n
+abbrev pub positionIn : List ℕ → ℕ → ℕ → ℕ
+positionIn ranks zero n = n
+positionIn ranks (suc c) n = getD ranks c 0
+
+abbrev pub positionBy : Remembered → ℕ → ℕ
+positionBy w n = positionIn (w .ranks) (w .count) n
+
+-- how many of c remembered nodes are left where they are dropped, from the deepest up, while their time is below t
+unfoldable pub leftBy : List ℕ → ℕ → ℕ → ℕ
+leftBy times t zero = 0
+leftBy times t (suc c) = cond (ltb (getD times c 0) t) (leftBy times t c) (suc c)
+
+-- Entry i: a node with its time and its rank. Its stretch ends at the rank of the one before, or n, and more than i levels lie down to it.
+pub record Entry (levels : Levels) (s nodes times ranks : List ℕ) (i : ℕ) : Type 0 where
+  pub one : 1 ≤ getD nodes i 0
+  pub among : getD nodes i 0 ≤ levels .pins
+  pub time : nodeTime (fetchedAt levels s) (getD nodes i 0) ≡ at (getD times i 0)
+  pub ranked : rank (levels .pins) (getD nodes i 0) ≡ getD ranks i 0
+  pub ends : stretch (levels .pins) (getD nodes i 0) .start + stretch (levels .pins) (getD nodes i 0) .pins ≡ positionIn ranks i (levels .pins)
+  pub deep : i < height (getD nodes i 0)
+
+pub record Keeps (levels : Levels) (s : List ℕ) (w : Remembered) : Type 0 where
+  pub nodes-size : length (w .nodes) ≡ 16
+  pub times-size : length (w .times) ≡ 16
+  pub ranks-size : length (w .ranks) ≡ 16
+  pub entry : (i : ℕ) → i < w .count → Entry levels s (w .nodes) (w .times) (w .ranks) i
+
+-- a target goes on from node v over the stretch `here`, with k nodes opened: each of them is remembered or before the stretch
+pub record Resumes (levels : Levels) (s : List ℕ) (w : Remembered) (v : ℕ) (here : Stretch) (k : ℕ) : Type 0 where
+  pub keeps : Keeps levels s w
+  pub ends : here .start + here .pins ≡ positionBy w (levels .pins)
+  pub deep : w .count < height v
+  pub few : k ≤ here .start + w .count
+
+-- what a target answers
+abbrev pub answerBy : ℕ → Ending → Answer
+answerBy p (ending.Opened k) = found p k
+answerBy p (ending.Refused r) = stopped (numberOf r) (nodeOf r)
+
+abbrev pub walkedAnswer : ℕ → Walked → Answer
+walkedAnswer n r = answerBy (positionBy (r .kept) n) (r .ending)
+
+-- between two targets, with k nodes opened
+pub record Rests (levels : Levels) (s : List ℕ) (w : Remembered) (k : ℕ) : Type 0 where
+  pub keeps : Keeps levels s w
+  pub few : k ≤ positionBy w (levels .pins) + w .count
+
+-- what a target leaves remembered, where it is not refused
+abbrev pub RemembersBy : Levels → List ℕ → Remembered → Ending → List ℕ → Type 0
+RemembersBy levels s w (ending.Opened k) vs = (keptIn w ≡ vs) × Rests levels s w k
+RemembersBy levels s w (ending.Refused r) vs = Unit {0}
+
+abbrev pub Remembers : Levels → List ℕ → Walked → List ℕ → Type 0
+Remembers levels s r vs = RemembersBy levels s (r .kept) (r .ending) vs
+
+-- where the next target goes on from, unless it drops a remembered node
+abbrev pub start : ℕ → Bool → ℕ
+start n first = cond first 1 (suc n)
+
+-- before the first target nothing is remembered or opened
+abbrev pub Between : Levels → List ℕ → Remembered → Bool → ℕ → Type 0
+Between levels s w first k = Rests levels s w k × (first ≡ true → (w .count ≡ 0) × (k ≡ 0))
+
+abbrev pub droppedIn : Levels → List ℕ → Remembered → Bool → ℕ → Dropped
+droppedIn levels s w first t = dropped (below (nodeTime (fetchedAt levels s)) t) (start (levels .pins) first) (keptIn w)
+
+-- what the next target answers, and leaves remembered
+abbrev pub targetIn : Levels → List ℕ → Remembered → Bool → ℕ → ℕ → Answer
+targetIn levels s w first t k =
+    let d = droppedIn levels s w first t in
+    targetFrom (levels .pins) (nodeTime (fetchedAt levels s)) t (d .kept) k (d .from)
+
+abbrev pub keptAfter : Levels → List ℕ → Remembered → Bool → ℕ → List ℕ
+keptAfter levels s w first t =
+    let d = droppedIn levels s w first t in
+    keptFrom (levels .pins) (nodeTime (fetchedAt levels s)) t (d .kept) (d .from)
+
+-- a sweep that goes on so
+abbrev pub sweepIn : Levels → List ℕ → Remembered → Bool → ℕ → List ℕ → Sweep
+sweepIn levels s w first k ts = sweepFrom (levels .pins) (nodeTime (fetchedAt levels s)) (start (levels .pins) first) (keptIn w) k ts
