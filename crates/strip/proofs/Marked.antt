@@ -13,8 +13,8 @@ use Rattle.tree.specs.Shape.{height, rootPlace}
 use Rattle.tree.specs.Walks.{Answer, found, stopped}
 use Rattle.strip.specs.Outcomes.{Outcome, gives, refuses, verdict}
 use Rattle.strip.specs.Layout.{maxPins}
-use Rattle.strip.specs.Calls.{packAnswer, packOutput, accessOf, searchOf, upToOf, checkOf, unpackOf, unpackOutput, repeatOf}
-use Rattle.strip.specs.Marked.{Case, packs, accesses, searches, counts, checks, unpacks, repeats, root, tall, Says, given, is, told, passes, all, marked, marked-pass}
+use Rattle.strip.specs.Calls.{packAnswer, packOutput, accessOf, searchOf, upToOf, sweepOf, sweepOutput, checkOf, unpackOf, unpackOutput, repeatOf}
+use Rattle.strip.specs.Marked.{Case, packs, accesses, searches, counts, sweeps, checks, unpacks, repeats, root, tall, Says, given, is, told, passes, all, marked, marked-pass}
 use Rattle.strip.proofs.Same.{both, same-lists}
 
 same-outcomes : (a b : Outcome ℕ) → T (given a b) → a ≡ b
@@ -46,6 +46,9 @@ says (packs xs out r after) h =
 says (accesses s i r) h = same-answers (accessOf s i) r h
 says (searches s t r) h = same-answers (searchOf s t) r h
 says (counts s t r) h = same-answers (upToOf s t) r h
+says (sweeps s ts out r after) h =
+    let b = both (is (sweepOf s ts (length out) .answer) r) (same (sweepOutput s ts out) after) h in
+    (same-answers (sweepOf s ts (length out) .answer) r (b .0), same-lists (sweepOutput s ts out) after (b .1))
 says (checks s r) h = same-outcomes (checkOf s) r h
 says (unpacks s out r after) h =
     let b = both (given (unpackOf s (length out)) r) (same (unpackOutput s out) after) h in

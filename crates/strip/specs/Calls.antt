@@ -11,6 +11,7 @@ use Rattle.tree.specs.Lists.{ordered}
 use Rattle.tree.specs.Levels.{fetchedAt}
 use Rattle.tree.specs.Times.{Time, nodeTime}
 use Rattle.tree.specs.Walks.{Answer, found, stopped, searchAnswer}
+use Rattle.tree.specs.Sweeps.{Sweep, sweep}
 use Rattle.tree.specs.Listing.{accesses, timesFrom}
 use Rattle.strip.specs.declared.strip.Packed.{Packed}
 use Rattle.strip.specs.declared.strip.Packed.the-variants as packing
@@ -18,6 +19,8 @@ use Rattle.strip.specs.declared.strip.Accessed.{Accessed}
 use Rattle.strip.specs.declared.strip.Accessed.the-variants as access
 use Rattle.strip.specs.declared.strip.Searched.{Searched}
 use Rattle.strip.specs.declared.strip.Searched.the-variants as search
+use Rattle.strip.specs.declared.strip.Swept.{Swept}
+use Rattle.strip.specs.declared.strip.Swept.the-variants as sweeping
 use Rattle.strip.specs.declared.strip.Checked.{Checked}
 use Rattle.strip.specs.declared.strip.Checked.the-variants as check
 use Rattle.strip.specs.declared.strip.Repeated.{Repeated}
@@ -52,9 +55,13 @@ packTests xs room =
 unfoldable pub packAnswer : List ℕ → ℕ → Outcome ℕ
 packAnswer xs room = verdict (packTests xs room) (length (image xs))
 
+-- a buffer with these entries at the front, and later ones as they were
+abbrev pub atFront : List ℕ → List ℕ → List ℕ
+atFront entries out = entries ++ drop (length entries) out
+
 -- the output with these entries at the front; a refusal writes nothing
 abbrev pub written : Outcome ℕ → List ℕ → List ℕ → List ℕ
-written (gives n) entries out = entries ++ drop (length entries) out
+written (gives n) entries out = atFront entries out
 written (refuses r c) entries out = out
 
 -- the output after pack: the image at the front, later bytes as they were
@@ -104,6 +111,33 @@ upToOf s t = answerAfter (opening s) (upToIn s t)
 abbrev pub searched : Searched → Answer
 searched (search.Position p k) = found p k
 searched (search.Refused r) = stopped (refusalNumber r) (carried r)
+
+-- ---- sweep
+
+-- 15, 16
+abbrev pub sweepTests : List ℕ → ℕ → List Test
+sweepTests ts room = test (not (eqb room (length ts))) 15 0 ∷ test (not (ordered ts)) 16 (firstLower ts) ∷ []
+
+-- a refusal before the first target writes nothing
+abbrev pub sweepAfter : {A : Type 0} → Outcome A → (A → Sweep) → Sweep
+sweepAfter (gives a) f = f a
+sweepAfter (refuses r c) f = record { positions = []; answer = stopped r c }
+
+-- 15, 16, then one target after the other, with so many answers lent
+abbrev pub sweepIn : List ℕ → List ℕ → ℕ → Levels → Sweep
+sweepIn s ts room levels = sweepAfter (verdict (sweepTests ts room) levels) (λ l. sweep (l .pins) (timesIn l s) ts)
+
+-- the sweep, which opens first
+unfoldable pub sweepOf : List ℕ → List ℕ → ℕ → Sweep
+sweepOf s ts room = sweepAfter (opening s) (sweepIn s ts room)
+
+-- the answers after it: the positions of the targets before the one that is refused, or of all; later ones as they were
+unfoldable pub sweepOutput : List ℕ → List ℕ → List ℕ → List ℕ
+sweepOutput s ts answers = atFront (sweepOf s ts (length answers) .positions) answers
+
+abbrev pub swept : Swept → Answer
+swept (sweeping.Nodes k) = found 0 k
+swept (sweeping.Refused r) = stopped (refusalNumber r) (carried r)
 
 -- ---- check and unpack
 

@@ -1,5 +1,5 @@
--- 01's marked cases but the sweep's, and the examples of its table of refusals but the sweep's, computed. The example of 2, a list of
--- 65,536, is too long for it and stands beside `marked-says`.
+-- 01's marked cases, and the examples of its table of refusals, computed. The example of 2, a list of 65,536, is too long for it and
+-- stands beside `marked-says`.
 use mathlib.Core.Bool.{Bool, true, false, _&&_}
 use mathlib.Core.Path.{_≡_, refl}
 use mathlib.Core.List.{List, [], _∷_, _++_}
@@ -17,14 +17,15 @@ use Rattle.tree.specs.Lists.{ordered}
 use Rattle.tree.specs.Stored.{timeOf, timeAbove, stored, storedFrom}
 use Rattle.tree.specs.Levels.{partOf, fetchedAt}
 use Rattle.tree.specs.Times.{nodeTimeIn, nodeTime}
-use Rattle.tree.specs.Walks.{walkIn, walk, Answer, found, stopped, met, toward, lastOf, accessAnswer, lastLeft, searchAnswer}
+use Rattle.tree.specs.Walks.{walkIn, walk, Answer, found, stopped, met, toward, lastOf, accessAnswer, remember, targetFrom}
+use Rattle.tree.specs.Sweeps.{dropped, sweepFrom}
 use Rattle.tree.specs.Listing.{timesFrom}
 use Rattle.strip.specs.Lists.{firstLower}
 use Rattle.strip.specs.Outcomes.{Outcome, gives, refuses, verdict}
 use Rattle.strip.specs.Layout.{maxPins, maxHeight, header, entry, endAfter, filled, laidOut}
 use Rattle.strip.specs.Image.{codeFor, partFor, joined, stripOf, image}
 use Rattle.strip.specs.Opening.{codeTests, opening}
-use Rattle.strip.specs.Calls.{packAnswer, packOutput, accessOf, searchOf, upToOf, positionsTests, listIn, checkOf, plainList, unpackOf, unpackOutput, repeatFrom, repeatOf}
+use Rattle.strip.specs.Calls.{packAnswer, packOutput, accessOf, searchOf, upToOf, sweepOf, sweepOutput, positionsTests, listIn, checkOf, plainList, unpackOf, unpackOutput, repeatFrom, repeatOf}
 
 -- list A with its strip, and strip B, that of the list 0
 abbrev pub listA : List ℕ
@@ -50,12 +51,18 @@ fallen = header 5 ++ entry 9 2 ++ entry 10 3 ++ entry 8 2 ++ (0xc8 ∷ 0x00 ∷ 
 abbrev wasteful : List ℕ
 wasteful = header 1 ++ entry 65 1 ++ (0x00 ∷ [])
 
+-- n = 3: the root 5, node 2 storing 0, node 3 storing 2 ^ 32 - 1
+abbrev high : List ℕ
+high = header 3 ++ entry 3 1 ++ entry 32 8 ++ (0xa0 ∷ 0 ∷ 0 ∷ 0 ∷ 0 ∷ 255 ∷ 255 ∷ 255 ∷ 255 ∷ [])
+
 pub data Case : Type 0 where
   -- the list, the output lent, the answer, and the output after it
   packs : List ℕ → List ℕ → Outcome ℕ → List ℕ → Case
   accesses : List ℕ → ℕ → Answer → Case
   searches : List ℕ → ℕ → Answer → Case
   counts : List ℕ → ℕ → Answer → Case
+  -- the strip, the targets, the answers lent, the answer, and the answers after it
+  sweeps : List ℕ → List ℕ → List ℕ → Answer → List ℕ → Case
   checks : List ℕ → Outcome ℕ → Case
   -- the strip, the output lent, the answer, and the output after it
   unpacks : List ℕ → List ℕ → Outcome ℕ → List ℕ → Case
@@ -69,6 +76,8 @@ marked =
     packs listA (replicate 30 7) (gives 29) (a ++ (7 ∷ [])) ∷ packs (0 ∷ []) (replicate 13 7) (gives 12) (b ++ (7 ∷ []))
     -- 3, 4, 5 and 7
     ∷ searches a 250 (found 1 3) ∷ searches a 251 (found 3 3) ∷ searches a 1001 (found 5 2) ∷ searches (image (5 ∷ 5 ∷ 5 ∷ [])) 5 (found 0 2)
+    -- 6, and no targets
+    ∷ sweeps a (250 ∷ 251 ∷ 1001 ∷ []) (replicate 3 7) (found 0 5) (1 ∷ 3 ∷ 5 ∷ []) ∷ sweeps a [] [] (found 0 0) []
     -- 8, and the greatest time
     ∷ counts a 250 (found 3 3) ∷ counts a 4294967295 (found 5 0)
     -- 9
@@ -93,6 +102,11 @@ marked =
     -- a refused check writes nothing; repeat does not look for 12, and tells 11 or the gap by what comes first
     ∷ unpacks wasteful (7 ∷ []) (refuses 12 0) (7 ∷ []) ∷ repeats wasteful 1340 (gives none)
     ∷ repeats fallen 150 (refuses 11 3) ∷ repeats fallen 151 (gives (some 1)) ∷ repeats low 1 (refuses 10 2)
+    -- of 15 and 16, both after opening
+    ∷ sweeps a (1 ∷ 2 ∷ []) (replicate 3 7) (stopped 15 0) (replicate 3 7) ∷ sweeps a (9 ∷ 8 ∷ []) (replicate 2 7) (stopped 16 1) (replicate 2 7)
+    ∷ sweeps (take 3 b) (9 ∷ 8 ∷ []) (7 ∷ []) (stopped 5 0) (7 ∷ []) ∷ sweeps a (9 ∷ 8 ∷ []) (7 ∷ []) (stopped 15 0) (7 ∷ [])
+    -- a sweep met by 10 has written the answers before it
+    ∷ sweeps high (5 ∷ 6 ∷ 7 ∷ []) (replicate 3 7) (stopped 10 3) (0 ∷ 7 ∷ 7 ∷ [])
     -- opening's own 1 and second 5; two faults at once, of which the first tested is told; no refusal but opening's at the greatest time
     ∷ searches (set b 6 0) 0 (stopped 1 0) ∷ searches (set b 6 5) 0 (stopped 5 0)
     ∷ searches (set (set b 4 2) 6 0) 0 (stopped 7 0) ∷ searches (set b 7 33 ++ (0 ∷ [])) 0 (stopped 8 1)
@@ -105,6 +119,7 @@ Says (packs xs out r after) = (packAnswer xs (length out) ≡ r) × (packOutput 
 Says (accesses s i r) = accessOf s i ≡ r
 Says (searches s t r) = searchOf s t ≡ r
 Says (counts s t r) = upToOf s t ≡ r
+Says (sweeps s ts out r after) = (sweepOf s ts (length out) .answer ≡ r) × (sweepOutput s ts out ≡ after)
 Says (checks s r) = checkOf s ≡ r
 Says (unpacks s out r after) = (unpackOf s (length out) ≡ r) × (unpackOutput s out ≡ after)
 Says (repeats s r x) = repeatOf s r ≡ x
@@ -140,6 +155,7 @@ passes (packs xs out r after) = given (packAnswer xs (length out)) r && same (pa
 passes (accesses s i r) = is (accessOf s i) r
 passes (searches s t r) = is (searchOf s t) r
 passes (counts s t r) = is (upToOf s t) r
+passes (sweeps s ts out r after) = is (sweepOf s ts (length out) .answer) r && same (sweepOutput s ts out) after
 passes (checks s r) = given (checkOf s) r
 passes (unpacks s out r after) = given (unpackOf s (length out)) r && same (unpackOutput s out) after
 passes (repeats s r x) = told (repeatOf s r) x
@@ -153,6 +169,6 @@ all (c ∷ cs) = passes c && all cs
 pub marked-pass : all marked ≡ true
 unfolding bits number sum fixed bytesOf padded kindOf rest layers kindBits widthIn widest bestChunked chosen fixedAt fetchLayers chunkedAt fetched height
     rootPlace childOf stretchIn stretch rank ordered timeOf timeAbove stored storedFrom partOf fetchedAt nodeTimeIn nodeTime walkIn walk met toward lastOf
-    accessAnswer lastLeft searchAnswer firstLower verdict endAfter filled laidOut codeFor partFor joined stripOf codeTests opening packAnswer packOutput
-    accessOf searchOf upToOf timesFrom positionsTests listIn checkOf plainList unpackOf unpackOutput repeatFrom repeatOf
+    accessAnswer remember targetFrom dropped sweepFrom firstLower verdict endAfter filled laidOut codeFor partFor joined stripOf codeTests opening packAnswer packOutput
+    accessOf searchOf upToOf sweepOf sweepOutput timesFrom positionsTests listIn checkOf plainList unpackOf unpackOutput repeatFrom repeatOf
 marked-pass = refl

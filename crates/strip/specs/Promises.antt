@@ -44,7 +44,7 @@ pub record Opens (xs : List ℕ) (levels : Levels) : Type 0 where
       → size (codeOf levels l) (levelValues (storedValues xs) l) ≤ size code (levelValues (storedValues xs) l)
   pub on-tie : (l code : ℕ) → 1 ≤ l → l ≤ height (length xs) → Holds (kindOf code) (levelValues (storedValues xs) l)
       → size code (levelValues (storedValues xs) l) ≡ size (codeOf levels l) (levelValues (storedValues xs) l) → codeOf levels l ≤ code
-  pub nodes : (t : ℕ) → searchNodes (levels .pins) (timesIn levels (image xs)) t ≡ path xs t
+  pub nodes : (t : ℕ) → searchNodes (levels .pins) (timesIn levels (image xs)) t 1 ≡ path xs t
 
 abbrev pub ImageOpens : Type 0
 ImageOpens = (xs : List ℕ) → Packable xs → (levels : Levels) × Opens xs levels

@@ -1,7 +1,7 @@
 -- 01's number for each refusal of the code, and what it carries.
 use Prim.Native.Nat.{ℕ}
 use Rattle.strip.specs.declared.refusals.Refusal.{Refusal}
-use Rattle.strip.specs.declared.refusals.Refusal.the-variants.{Empty, TooMany, ListFalls, Short, Cut, Mark, Version, Code, Fetch, Time, TimesFall, Image, Length, Position}
+use Rattle.strip.specs.declared.refusals.Refusal.the-variants.{Empty, TooMany, ListFalls, Short, Cut, Mark, Version, Code, Fetch, Time, TimesFall, Image, Length, Position, Answers, TargetsFall}
 
 abbrev pub refusalNumber : Refusal → ℕ
 refusalNumber Empty = 1
@@ -18,6 +18,8 @@ refusalNumber (TimesFall i) = 11
 refusalNumber Image = 12
 refusalNumber Length = 13
 refusalNumber Position = 14
+refusalNumber Answers = 15
+refusalNumber (TargetsFall i) = 16
 
 abbrev pub carried : Refusal → ℕ
 carried Empty = 0
@@ -34,3 +36,5 @@ carried (TimesFall i) = i
 carried Image = 0
 carried Length = 0
 carried Position = 0
+carried Answers = 0
+carried (TargetsFall i) = i

@@ -8,6 +8,7 @@ mod packing; // the plan of an image, and whether there is room for it
 mod refusals; // why a call is refused
 mod repeating; // repeat of an open strip
 mod strip; // the strip type, with the calls
+mod sweeping; // sweep of an open strip
 mod writing; // the image's bytes
 
 pub use refusals::Refusal;
@@ -17,3 +18,4 @@ pub use strip::Packed;
 pub use strip::Repeated;
 pub use strip::Searched;
 pub use strip::Strip;
+pub use strip::Swept;

@@ -32,6 +32,10 @@ pub enum Refusal {
     Length,
     // 14: a position at or past the pin count.
     Position,
+    // 15: answers and targets differ in length.
+    Answers,
+    // 16: the targets fall; the first lower index.
+    TargetsFall(usize),
 }
 
 // A walk's refusal as a strip's.

@@ -8,13 +8,14 @@ use super::packing::pack_list;
 use super::refusals::Refusal;
 use super::refusals::of_walk;
 use super::repeating::repeat_open;
+use super::sweeping::sweep_open;
 use tree::GREATEST;
 use tree::Levels;
 ghost use mathlib.Core.Path.{_≡_};
 ghost use lib.ListN.{length};
 ghost use Rattle.tree.specs.Shape.{height, rootPlace};
 ghost use Rattle.tree.specs.Levels.{Fits};
-ghost use Rattle.strip.specs.Calls.{packAnswer, packOutput, packed, accessOf, accessIn, accessed, searchOf, searchIn, upToOf, searched, checkOf, unpackOf, unpackOutput, checked, repeatOf, repeated};
+ghost use Rattle.strip.specs.Calls.{packAnswer, packOutput, packed, accessOf, accessIn, accessed, searchOf, searchIn, upToOf, searched, sweepOf, sweepOutput, swept, checkOf, unpackOf, unpackOutput, checked, repeatOf, repeated};
 
 pub struct Strip {}
 
@@ -46,6 +47,12 @@ pub enum Accessed {
 // The position that a search finds, or the number of strikes that up-to counts, with the nodes opened.
 pub enum Searched {
     Position(usize, usize),
+    Refused(Refusal),
+}
+
+// The nodes that a sweep opens in all.
+pub enum Swept {
+    Nodes(usize),
     Refused(Refusal),
 }
 
@@ -156,6 +163,19 @@ impl Strip {
                 search_open(s, opening.levels, t + 1)
             }
             Status::Refused(r) => Searched::Refused(r),
+        }
+    }
+
+    // Writes the position of each target, none less than the one before, and opens no node twice.
+    pub fn sweep(answers: &mut [u32], s: &[u8], targets: &[u32]) -> Swept
+        ensures { λ r. ⌜ swept r ≡ sweepOf (now (s .entry)) (now (targets .entry)) (length (now (answers .entry))) .answer ⌝ }
+        ensures { λ r. ⌜ now (answers .exit) ≡ sweepOutput (now (s .entry)) (now (targets .entry)) (now (answers .entry)) ⌝ }
+    {
+        let opening = opening_of(s);
+        let status = opening.status;
+        match status {
+            Status::Open => sweep_open(answers, s, opening.levels, targets),
+            Status::Refused(r) => Swept::Refused(r),
         }
     }
 

@@ -1,6 +1,7 @@
 -- Laws that belong to no one function, each file about what its name says; Promises proves what specs/Promises states.
 pub mod Buffers
 pub mod Contents
+pub mod Counts
 pub mod Fills
 pub mod Heights
 pub mod Inorder
@@ -16,5 +17,6 @@ pub mod Remembering
 pub mod Shifts
 pub mod Steps
 pub mod Stretches
+pub mod Sweeps
 pub mod TimeBounds
 pub mod Walks

@@ -27,7 +27,15 @@ smaller-le t (x ∷ xs) = elim (decLt x t) [
   | no k ↦ omega (arith, smaller-same t x xs (omega arith), smaller-le t xs)
 ]
 
-ordered-head : (x y : ℕ) (ys : List ℕ) → T (ordered (x ∷ y ∷ ys)) → (x ≤ y) × T (ordered (y ∷ ys))
+pub smaller-mono : (s t : ℕ) (xs : List ℕ) → s ≤ t → smaller s xs ≤ smaller t xs
+unfolding smaller
+smaller-mono s t [] h = le-refl 0
+smaller-mono s t (x ∷ xs) h = elim (decLt x s) [
+  | yes k ↦ omega (arith, smaller-more s x xs k, smaller-more t x xs (omega arith), smaller-mono s t xs h)
+  | no k ↦ omega (arith, smaller-same s x xs (omega arith), smaller-mono s t xs h)
+]
+
+pub ordered-head : (x y : ℕ) (ys : List ℕ) → T (ordered (x ∷ y ∷ ys)) → (x ≤ y) × T (ordered (y ∷ ys))
 unfolding ordered
 ordered-head x y ys o = go (leb x y) refl o
   where

@@ -3,7 +3,7 @@ use mathlib.Core.Path.{_≡_, refl, sym, ap, ap₂, _∙_}
 use mathlib.Core.Bool.{Bool, true, false, cond}
 use mathlib.Core.List.{List, [], _∷_, _++_, append-nil}
 use Prim.Native.Nat.{ℕ, zero, suc, _+_, _/_, _≤_, _<_}
-use native.Mathlib.Nat.{le-refl}
+use native.Mathlib.Nat.{le-refl, zero-add}
 use native.Mathlib.Decide.{decLt}
 use native.Mathlib.Omega.{arith}
 use lib.Dec.{T, eqb, ltb}
@@ -13,8 +13,9 @@ use Rattle.tree.specs.Shape.{height, childOf, rank}
 use Rattle.tree.specs.Lists.{ordered, smaller}
 use Rattle.tree.specs.Stored.{timeOf}
 use Rattle.tree.specs.Times.{Time, at, known}
-use Rattle.tree.specs.Walks.{walk, found, towardFrom, toward, lastOf, accessAnswer, never, lastLeft, searchNodes, searchAnswer, path, fromRootIn, fromRoot}
-use Rattle.tree.specs.Filled.{Under, here, below}
+use Rattle.tree.specs.Walks.{walk, found, towardFrom, toward, lastOf, accessAnswer, fromRootIn, fromRoot}
+use Rattle.tree.specs.Walks.{never, below, searchNodes, remember, position, keptFrom, targetFrom, searchAnswer, path}
+use Rattle.tree.specs.Filled.{Under, here, below as deeper}
 use Rattle.tree.proofs.Heights.{height-zero, height-step}
 use Rattle.tree.proofs.Orders.{smaller-le, smaller-first}
 use Rattle.tree.proofs.Walks.{child-bounds, parent-of, walk-out, walk-on, toward-on, walk-same, met-none}
@@ -26,7 +27,7 @@ use Rattle.tree.proofs.Ranks.{under-root, under-rank, under-out, rank-l
 -- the nodes from w down to a node under it
 steps : {w v : ℕ} → Under w v → List ℕ
 steps {w} (here e) = w ∷ []
-steps {w} (below b x) = w ∷ steps x
+steps {w} (deeper b x) = w ∷ steps x
 
 toward-under : (n v : ℕ) {w a b : ℕ} → v ≤ n → Tree n w a b → (x : Under w v)
     → towardFrom n (rank n v) w ≡ steps x
@@ -34,11 +35,11 @@ unfolding steps childOf
 toward-under n v k (out h e) x = absurd (omega (arith, under-out n x h))
 toward-under n v {w} k (node h l a b) (here e) =
     toward-on n (rank n v) w h l ∙ rw (eq-eqb (rank n w) (rank n v) (ap (rank n) e))
-toward-under n v {w} k (node h l a b) (below false x) =
+toward-under n v {w} k (node h l a b) (deeper false x) =
     let r = under-rank a x k in
     toward-on n (rank n v) w h l
     ∙ rw (ne-eqb (rank n w) (rank n v) (omega arith), le-ltb (rank n w) (rank n v) (omega arith)) (ap (λ (us : List ℕ). w ∷ us) (toward-under n v k a x))
-toward-under n v {w} k (node h l a b) (below true x) =
+toward-under n v {w} k (node h l a b) (deeper true x) =
     let r = under-rank b x k in
     toward-on n (rank n v) w h l
     ∙ rw (ne-eqb (rank n w) (rank n v) (omega arith), lt-ltb (rank n w) (rank n v) (omega arith)) (ap (λ (us : List ℕ). w ∷ us) (toward-under n v k b x))
@@ -52,7 +53,7 @@ fromRoot-under : {w v : ℕ} (x : Under w v) (after : List ℕ) → 1 ≤ w
     → fromRootIn (height v) v after ≡ fromRootIn (height (w / 2)) (w / 2) (steps x ++ after)
 unfolding steps
 fromRoot-under {w} (here e) after h = rw (← e) (fromRoot-one w after h)
-fromRoot-under {w} (below b x) after h =
+fromRoot-under {w} (deeper b x) after h =
     fromRoot-under x after (omega (arith, child-bounds b w)) ∙ rw (parent-of b w) (fromRoot-one w (steps x ++ after) h)
 
 pub toward-rank : (n v : ℕ) → 1 ≤ v → v ≤ n → toward n (rank n v) ≡ fromRoot v
@@ -87,34 +88,47 @@ rank-once n u v a b c d e =
 -- ---- search
 
 -- the test of a walk cuts the ranks at p: it is passed by the nodes of the ranks below p and by no others
-abbrev Cuts : ℕ → (ℕ → Bool) → ℕ → Type 0
+abbrev pub Cuts : ℕ → (ℕ → Bool) → ℕ → Type 0
 Cuts n past p = (v : ℕ) → 1 ≤ v → v ≤ n → past v ≡ ltb (rank n v) p
 
-left-step : (n : ℕ) (past : ℕ → Bool) (d v : ℕ) (right : Bool) → 1 ≤ v → v ≤ n → past v ≡ right
-    → lastLeft n past d (walk n never past v) ≡ lastLeft n past (cond right d (rank n v)) (walk n never past (childOf right v))
-unfolding lastLeft
-left-step n past d v right h k e =
-    rw (walk-on n never past v h k) (ap (λ (b : Bool). lastLeft n past (cond b d (rank n v)) (walk n never past (childOf b v))) e)
+module _ (n : ℕ) (past : ℕ → Bool) (p : ℕ) (c : Cuts n past p) (v : ℕ) (h : 1 ≤ v) (k : v ≤ n) where
+  pub cut-right : rank n v < p → past v ≡ true
+  cut-right q = c v h k ∙ lt-ltb (rank n v) p q
 
--- a walk through the stretch from a to b, with b as the last rank left by its left side, ends at the cut
+  pub cut-left : p ≤ rank n v → past v ≡ false
+  cut-left q = c v h k ∙ le-ltb (rank n v) p q
+
+-- a walk goes on by one side of node v, and remembers v where that is the left one
+module _ (n : ℕ) (past : ℕ → Bool) (v : ℕ) (right : Bool) (h : 1 ≤ v) (k : v ≤ n) (e : past v ≡ right) where
+  pub walk-side : walk n never past v ≡ v ∷ walk n never past (childOf right v)
+  walk-side = rw (← e) (walk-on n never past v h k)
+
+  pub remember-side : (kept : List ℕ)
+      → remember past (walk n never past v) kept ≡ remember past (walk n never past (childOf right v)) (cond right kept (v ∷ kept))
+  unfolding remember
+  remember-side kept = rw walk-side (ap (λ (b : Bool). remember past (walk n never past (childOf right v)) (cond b kept (v ∷ kept))) e)
+
+-- a walk through the stretch from a to b, with b as the position before it, ends at the cut
 search-under : (n : ℕ) (past : ℕ → Bool) (p : ℕ) → Cuts n past p → {v a b : ℕ} → Tree n v a b → a ≤ p → p ≤ b
-    → lastLeft n past b (walk n never past v) ≡ p
-unfolding lastLeft childOf
-search-under n past p c {v} (out h e) lo hi = rw (walk-out n never past v h) (omega arith)
-search-under n past p c {v} {b = b} (node h k l r) lo hi = elim (decLt (rank n v) p) [
-  | yes y ↦ left-step n past b v true h k (c v h k ∙ lt-ltb (rank n v) p y) ∙ search-under n past p c r y hi
-  | no y ↦ left-step n past b v false h k (c v h k ∙ le-ltb (rank n v) p (omega arith)) ∙ search-under n past p c l lo (omega arith)
+    → (kept : List ℕ) → position n kept ≡ b → position n (remember past (walk n never past v) kept) ≡ p
+unfolding remember childOf
+search-under n past p c {v} (out h e) lo hi kept q = rw (walk-out n never past v h) (omega arith)
+search-under n past p c {v} (node h k l r) lo hi kept q = elim (decLt (rank n v) p) [
+  | yes y ↦ rw (remember-side n past v true h k (cut-right n past p c v h k y) kept) (search-under n past p c r y hi kept q)
+  | no y ↦
+      rw (remember-side n past v false h k (cut-left n past p c v h k (omega arith)) kept)
+      (search-under n past p c l lo (omega arith) (v ∷ kept) refl)
 ]
 
-cuts-below : (xs : List ℕ) (t : ℕ) → T (ordered xs) → Cuts (length xs) (λ v. ltb (timeOf xs v) t) (smaller t xs)
+pub cuts-below : (xs : List ℕ) (t : ℕ) → T (ordered xs) → Cuts (length xs) (λ v. ltb (timeOf xs v) t) (smaller t xs)
 unfolding timeOf
 cuts-below xs t o v h k = smaller-first t xs o (rank (length xs) v) (rank-lt (length xs) v h k)
 
 -- ---- the answers, where no node's time is refused
 
 module _ (xs : List ℕ) (time : ℕ → Time) (fine : (v : ℕ) → 1 ≤ v → v ≤ length xs → time v ≡ at (timeOf xs v)) where
-  past-same : (t v : ℕ) → 1 ≤ v → v ≤ length xs → ltb (known (time v)) t ≡ ltb (timeOf xs v) t
-  past-same t v h k = ap (λ (x : Time). ltb (known x) t) (fine v h k)
+  below-same : (t v : ℕ) → 1 ≤ v → v ≤ length xs → below time t v ≡ ltb (timeOf xs v) t
+  below-same t v h k = ap (λ (x : Time). ltb (known x) t) (fine v h k)
 
   -- the last node on the way to rank i is the one of that rank
   pub access-answer : (i : ℕ) → i < length xs → accessAnswer (length xs) time i ≡ found (getD xs i 0) (length (toward (length xs) i))
@@ -127,17 +141,22 @@ module _ (xs : List ℕ) (time : ℕ → Time) (fine : (v : ℕ) → 1 ≤ v →
       met-none n time (timeOf xs) fine (found (known (time (lastOf 0 (toward n i)))) (length (toward n i))) (λ u. eqb (rank n u) i) (λ u. ltb (rank n u) i) 1 (le-refl 1)
       ∙ ap (λ (y : ℕ). found y (length (toward n i))) x
 
-  pub search-path : (t : ℕ) → searchNodes (length xs) time t ≡ path xs t
+  pub search-path : (t : ℕ) → searchNodes (length xs) time t 1 ≡ path xs t
   unfolding path
-  search-path t = walk-same (length xs) never (λ v. ltb (known (time v)) t) (λ v. ltb (timeOf xs v) t) (past-same t) 1 (le-refl 1)
+  search-path t = walk-same (length xs) never (below time t) (λ v. ltb (timeOf xs v) t) (below-same t) 1 (le-refl 1)
 
-  -- the position is the number of smaller times
-  pub search-answer : T (ordered xs) → (t : ℕ) → searchAnswer (length xs) time t ≡ found (smaller t xs) (length (path xs t))
-  unfolding searchAnswer
-  search-answer o t =
-      let n = length xs in
-      let past : ℕ → Bool = λ v. ltb (known (time v)) t in
-      let nodes = searchNodes n time t in
-      let p : lastLeft n past n nodes ≡ smaller t xs =
-      search-under n past (smaller t xs) (λ v h k. past-same t v h k ∙ cuts-below xs t o v h k) (tree n) (omega arith) (smaller-le t xs) in
-      met-none n time (timeOf xs) fine (found (lastLeft n past n nodes) (length nodes)) never past 1 (le-refl 1) ∙ ap₂ found p (ap length (search-path t))
+  module _ (o : T (ordered xs)) (t : ℕ) where
+    pub search-cuts : Cuts (length xs) (below time t) (smaller t xs)
+    search-cuts v h k = below-same t v h k ∙ cuts-below xs t o v h k
+
+    -- the position is the number of smaller times
+    pub search-position : position (length xs) (keptFrom (length xs) time t [] 1) ≡ smaller t xs
+    search-position = search-under (length xs) (below time t) (smaller t xs) search-cuts (tree (length xs)) (omega arith) (smaller-le t xs) [] refl
+
+    pub search-answer : searchAnswer (length xs) time t ≡ found (smaller t xs) (length (path xs t))
+    unfolding targetFrom
+    search-answer =
+        let nodes = searchNodes (length xs) time t 1 in
+        let answer = found (position (length xs) (keptFrom (length xs) time t [] 1)) (0 + length nodes) in
+        met-none (length xs) time (timeOf xs) fine answer never (below time t) 1 (le-refl 1)
+        ∙ ap₂ found search-position (zero-add (length nodes) ∙ ap length (search-path t))

@@ -14,13 +14,15 @@ use Rattle.tree.specs.Levels.{firstOf, levelOf, fetchedAt}
 use Rattle.tree.specs.Times.{at, nodeTime}
 use Rattle.tree.specs.Listing.{nowhere, accesses, timesFrom, stopFrom}
 use Rattle.tree.specs.Walks.{toward, accessAnswer, searchNodes, searchAnswer}
-use Rattle.tree.specs.Promises.{HeightLeast, Shape, Held, Contents, SearchFinds, AccessOpens, StoredLevels, Lists}
+use Rattle.tree.specs.Sweeps.{sweep}
+use Rattle.tree.specs.Promises.{HeightLeast, Shape, Held, Contents, SearchFinds, AccessOpens, StoredLevels, Lists, SweepFinds}
 use Rattle.tree.proofs.Heights.{digits, height-bound, height-le, height-is}
 use Rattle.tree.proofs.Stretches.{stretch-root, stretch-left, stretch-right, node-iff}
 use Rattle.tree.proofs.Inorder.{tree}
 use Rattle.tree.proofs.Ranks.{rank-lt, rank-found}
 use Rattle.tree.proofs.Walks.{walk-length}
 use Rattle.tree.proofs.Paths.{toward-rank, rank-once, fromRoot-length, access-answer, search-path, search-answer}
+use Rattle.tree.proofs.Sweeps.{sweep-answer, different-pins, different-heights}
 use Rattle.tree.proofs.Contents.{times-back}
 use Rattle.tree.proofs.Listings.{times-end, times-found}
 use Rattle.tree.proofs.TimeBounds.{times-within}
@@ -77,7 +79,7 @@ contents = record {
 pub search-finds : SearchFinds
 search-finds = record {
   nodes = λ levels s xs held t.
-      ap (λ (n : ℕ). searchNodes n (nodeTime (fetchedAt levels s)) t) (held .stores .pins-are)
+      ap (λ (n : ℕ). searchNodes n (nodeTime (fetchedAt levels s)) t 1) (held .stores .pins-are)
       ∙ search-path xs (nodeTime (fetchedAt levels s)) (node-times levels s xs held) t;
   answer = λ levels s xs held t.
       ap (λ (n : ℕ). searchAnswer n (nodeTime (fetchedAt levels s)) t) (held .stores .pins-are)
@@ -107,4 +109,13 @@ lists = record {
   within = λ levels s k. times-within levels s k 0;
   times = λ levels s xs held. listing levels s xs held .0;
   stop = λ levels s xs held. listing levels s xs held .1;
+}
+
+pub sweep-finds : SweepFinds
+sweep-finds = record {
+  answer = λ levels s xs held ts o.
+      ap (λ (n : ℕ). sweep n (nodeTime (fetchedAt levels s)) ts) (held .stores .pins-are)
+      ∙ sweep-answer xs (nodeTime (fetchedAt levels s)) (node-times levels s xs held) (held .in-order) ts o;
+  pins = different-pins;
+  heights = different-heights;
 }

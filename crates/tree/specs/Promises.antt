@@ -1,9 +1,9 @@
 -- What is shown of the tree besides each function's contract. proofs/Promises proves each, as `height-least`, `shape`, `contents`,
--- `search-finds`, `access-opens`, `stored-levels` and `lists`.
+-- `search-finds`, `access-opens`, `stored-levels`, `lists` and `sweep-finds`.
 use mathlib.Core.Path.{_≡_}
 use mathlib.Core.Logic.{_≢_, _↔_}
 use mathlib.Core.Bool.{Bool, true, false}
-use mathlib.Core.List.{List}
+use mathlib.Core.List.{List, map}
 use Prim.Native.Nat.{ℕ, suc, _-_, _*_, _+_, _^_, _≤_, _<_, min}
 use lib.Dec.{T}
 use lib.ListN.{length, getD}
@@ -16,6 +16,7 @@ use Rattle.tree.specs.Levels.{firstOf, levelOf, levelValues, fetchedAt, 
 use Rattle.tree.specs.Times.{at, nodeTime}
 use Rattle.tree.specs.Listing.{nowhere, accesses, timesFrom, stopFrom, endOf}
 use Rattle.tree.specs.Walks.{walk, Answer, found, toward, accessAnswer, searchNodes, searchAnswer, path, fromRoot}
+use Rattle.tree.specs.Sweeps.{sweep, different}
 
 -- The height is the least number with 2 ^ h - 1 ≥ n.
 pub record HeightLeast : Type 0 where
@@ -82,3 +83,11 @@ pub record Lists : Type 0 where
   pub within : (levels : Levels) (s : List ℕ) (k : ℕ) → Within 32 (timesFrom (accesses levels s) k 0)
   pub times : (levels : Levels) (s xs : List ℕ) → Held levels s xs → timesFrom (accesses levels s) (levels .pins) 0 ≡ xs
   pub stop : (levels : Levels) (s xs : List ℕ) → Held levels s xs → stopFrom (accesses levels s) (levels .pins) 0 ≡ nowhere
+
+-- 7. A sweep of targets in order gives each the number of times smaller than it, as its search does. It opens each node on the paths of
+-- its targets once, at most all pins, and at most the height for each target. Nothing is refused.
+pub record SweepFinds : Type 0 where
+  pub answer : (levels : Levels) (s xs : List ℕ) → Held levels s xs → (ts : List ℕ) → T (ordered ts)
+      → sweep (levels .pins) (nodeTime (fetchedAt levels s)) ts ≡ record { positions = map (λ t. smaller t xs) ts; answer = found 0 (different xs ts) }
+  pub pins : (xs ts : List ℕ) → different xs ts ≤ length xs
+  pub heights : (xs ts : List ℕ) → different xs ts ≤ length ts * height (length xs)

@@ -123,10 +123,13 @@ loop-again c =
     ∙ sweep-next (a .levels) (a .s .now) (l .kept) first (l .nodes) t ts (c .position-of .result) k
     (sym (c .before .before .before .before .before .next-target .ensures .0) ∙ ap (answerBy _) (c .before .before .before .ending .given .1) ∙ ap (λ (p : ℕ). found p k) (sym (c .position-of .ensures))) in
     let on : sweepFrom n read (suc n) kept k ts ≡ sweepIn (a .levels) (a .s .now) (r .kept) (eqb (i + 1) 0) k (drop (i + 1) (a .targets .now)) =
-    rw (later, add-one i) (ap (λ (us : List ℕ). sweepFrom n read (suc n) us k ts) (sym (left .0))) in
-    (omega arith, length-set (l .answers) i (c .position-of .result) ∙ l .inv .1, (left .1, λ h. absurd (omega (arith, eqb-true (i + 1) 0 h))),
+    rw (later, add-one i) (ap (λ (us : List ℕ). sweepFrom n read (suc n) us k ts) (sym (left .0))) in (
+      omega arith,
+      length-set (l .answers) i (c .position-of .result) ∙ l .inv .1,
+      (left .1, λ h. absurd (omega (arith, eqb-true (i + 1) 0 h))),
       l .inv .3 ∙ ap (λ (x : Sweep). x .answer) e ∙ ap (λ (x : Sweep). x .answer) on,
-      l .inv .4 ∙ ap (λ (x : Sweep). replaced (l .answers) i (x .positions)) e ∙ sym (replaced-next (l .answers) i (c .position-of .result) _ (omega (arith, c .before .before .before .before .before .before .before .before .before .before .before .before .before .pre .1))) ∙ ap (λ (x : Sweep). replaced (set (l .answers) i (c .position-of .result)) (i + 1) (x .positions)) on)
+      l .inv .4 ∙ ap (λ (x : Sweep). replaced (l .answers) i (x .positions)) e ∙ sym (replaced-next (l .answers) i (c .position-of .result) _ (omega (arith, c .before .before .before .before .before .before .before .before .before .before .before .before .before .pre .1))) ∙ ap (λ (x : Sweep). replaced (set (l .answers) i (c .position-of .result)) (i + 1) (x .positions)) on,
+    )
 
 same-length-2 : tie.Need-same-length-2 Inv-loop μ-loop
 same-length-2 c = c .before .loop .inv .1

@@ -169,9 +169,9 @@ loop-again c =
       stands-child (l .inv .0) (ltb x t) x (omega arith) e,
       resumes-child (a .t2) (a .s .now) (l .inv .0) (l .inv .1) (omega arith) (c .before .before .before .before .before .before .before .before .before .before .before .before .before .before .before .before .pre .0) x t e,
       ap (λ (k : List ℕ). targetFrom n read t k (l .nodes + 1) (childOf (ltb x t) (l .v))) (kept-child (a .t2) (a .s .now) (l .inv .0) (l .inv .1) (omega arith) (c .before .before .before .before .before .before .before .before .before .before .before .before .before .before .before .before .pre .0) x t)
-      ∙ sym (target-step n read t (keptIn (l .kept)) (l .v) x (l .inv .0 .one) (omega arith) e (l .nodes)) ∙ l .inv .2,
+          ∙ sym (target-step n read t (keptIn (l .kept)) (l .v) x (l .inv .0 .one) (omega arith) e (l .nodes)) ∙ l .inv .2,
       ap (λ (k : List ℕ). keptFrom n read t k (childOf (ltb x t) (l .v))) (kept-child (a .t2) (a .s .now) (l .inv .0) (l .inv .1) (omega arith) (c .before .before .before .before .before .before .before .before .before .before .before .before .before .before .before .before .pre .0) x t)
-      ∙ sym (kept-step n read t (keptIn (l .kept)) (l .v) x (l .inv .0 .one) (omega arith) e) ∙ l .inv .3,
+          ∙ sym (kept-step n read t (keptIn (l .kept)) (l .v) x (l .inv .0 .one) (omega arith) e) ∙ l .inv .3,
     )
 
 returns-2 : tie.Need-returns-2 Inv-loop μ-loop
