@@ -155,13 +155,14 @@ fn target(times: &[u32], sort: usize, random: &mut Random) -> u32 {
         2 => up_to(times[0], random),
         3 => !up_to(!times[n - 1], random),
         4 => [0, u32::MAX][random.below(2)],
+        // Anywhere among the times.
         5 => up_to(times[n - 1], random),
         _ => target(times, random.below(SORTS - 1), random),
     }
 }
 
-/// So many targets for a sweep, of one sort or the last of all sorts. In half of the calls about
-/// half of them equal the one before.
+/// So many targets for a sweep, of this sort; the last sort is of all others. In half of the calls
+/// about half of the targets equal another.
 pub fn sweep_targets(times: &[u32], count: usize, sort: usize, random: &mut Random) -> Vec<u32> {
     let repeated = random.below(2) == 0;
     let mut targets = Vec::new();

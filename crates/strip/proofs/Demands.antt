@@ -1,33 +1,37 @@
 -- The demands of specs/Demands.
 use mathlib.Core.Path.{_≡_, refl, sym, ap, subst, _∙_}
 use mathlib.Core.Logic.{_↔_}
-use mathlib.Core.Bool.{true, not}
-use mathlib.Core.List.{List, _++_}
-use Prim.Native.Nat.{ℕ, _+_, _*_, _/_, _%_, _≤_}
+use mathlib.Core.Bool.{Bool, true, false, not, true≢false}
+use mathlib.Core.List.{List, [], _∷_, _++_, map, append-nil}
+use Prim.Native.Nat.{ℕ, zero, suc, _+_, _*_, _/_, _%_, _≤_, _<_}
 use native.Mathlib.Nat.{le-refl}
 use native.Mathlib.Omega.{arith}
-use lib.Dec.{eqb, ltb}
-use lib.ListN.{length, take, drop}
+use lib.Dec.{T, eqb, ltb}
+use lib.ListN.{length, take, drop, getD, length-map, drop-of-length-le}
 use lib.Seq.{take-at}
 use borrow.Author.Tests.{eqb-false, ltb-false, not-false, ne-eqb, le-ltb}
 use Rattle.codes.specs.Codes.{Within}
 use Rattle.tree.specs.declared.nodes.Levels.{Levels}
 use Rattle.tree.specs.Lists.{ordered, smaller}
 use Rattle.tree.specs.Stored.{storedValues}
-use Rattle.tree.specs.Walks.{found, path}
+use Rattle.tree.specs.Walks.{Answer, found, stopped, path}
+use Rattle.tree.specs.Sweeps.{Sweep, different}
 use Rattle.tree.specs.Listing.{nowhere}
-use Rattle.tree.proofs.Promises.{stored-levels, lists}
+use Rattle.tree.proofs.Promises.{stored-levels, lists, sweep-finds}
 use Rattle.strip.specs.declared.strip.Checked.{Checked}
 use Rattle.strip.specs.declared.strip.Checked.the-variants.{Pins, Refused}
+use Rattle.strip.specs.declared.strip.Swept.{Swept}
+use Rattle.strip.specs.declared.strip.Swept.the-variants as sweeping
 use Rattle.strip.specs.Outcomes.{Outcome, gives, refuses, verdict, after}
 use Rattle.strip.specs.Layout.{maxPins, pinsOf, laidOut}
 use Rattle.strip.specs.Image.{stripOf, image}
 use Rattle.strip.specs.Opening.{levelsIn, opening}
-use Rattle.strip.specs.Calls.{packAnswer, written, packOutput, searchOf, listIn, checkIn, checkOf, checked, plainList, unpackOf, unpackOutput}
+use Rattle.strip.specs.Calls.{packAnswer, atFront, written, packOutput, searchOf, sweepOf, sweepOutput, swept, listIn, checkIn, checkOf, checked, plainList, unpackOf, unpackOutput}
 use Rattle.strip.specs.Promises.{Packable, Opens}
-use Rattle.strip.specs.Demands.{PacksTo, UnpacksTo, FewestBits, Accepted, CheckAccepts, CodeAccepts, Demand2}
+use Rattle.strip.specs.Demands.{PacksTo, UnpacksTo, FewestBits, Accepted, CheckAccepts, CodeAccepts, Demand2, SweepsAs, CodeSweepsAs, Demand3}
 use Rattle.strip.proofs.Same.{is-true, same-lists, same-itself}
 use Rattle.strip.proofs.Verdicts.{gives-refuses, verdict-gives, verdict-passed}
+use Rattle.strip.proofs.Sweeps.{targets-follow}
 use Rattle.strip.proofs.Readings.{check-all}
 use Rattle.strip.proofs.Checks.{list-count, accepts}
 use Rattle.strip.proofs.Promises.{image-opens, round-trip}
@@ -69,6 +73,13 @@ module _ (xs : List ℕ) (p : Packable xs) where
   unpacks-back : (out : List ℕ) → length xs ≤ length out → UnpacksTo (image xs) xs out
   unfolding unpackOf unpackOutput verdict
   unpacks-back out room = rw (check-back, plain-back, le-ltb (length out) (length xs) room) (refl, refl)
+
+  -- a sweep of it gives the numbers of smaller times, and counts the different nodes
+  sweep-back : (ts : List ℕ) (room : ℕ) → room ≡ length ts → T (ordered ts)
+      → sweepOf (image xs) ts room ≡ record { positions = map (λ t. smaller t xs) ts; answer = found 0 (different xs ts) }
+  unfolding sweepOf
+  sweep-back ts room e o =
+      rw (opens .opened) (targets-follow (image xs) ts room levels e (is-true (ordered ts) o) ∙ sweep-finds .answer levels (image xs) xs (opens .held) ts o)
 
 -- ---- from a strip to its list
 
@@ -181,3 +192,59 @@ demand-2 = record {
   one-list = one-list;
   searches = searches;
 }
+
+-- ---- sweep
+
+map-at : (f : ℕ → ℕ) (ts : List ℕ) (i : ℕ) → i < length ts → getD (map f ts) i 0 ≡ f (getD ts i 0)
+map-at f [] i h = absurd (omega arith)
+map-at f (t ∷ ts) zero h = refl
+map-at f (t ∷ ts) (suc i) h = map-at f ts i (omega arith)
+
+module _ (s ts answers : List ℕ) (a : Accepted s) (o : T (ordered ts)) (e : length answers ≡ length ts) where
+  abbrev positions : List ℕ
+  positions = map (λ t. smaller t (plainList s)) ts
+
+  swept-as : sweepOf s ts (length answers) ≡ record { positions = positions; answer = found 0 (different (plainList s) ts) }
+  swept-as =
+      let (xs, w, (out, to)) = a in
+      let one = one-list s xs out w to in
+      ap (λ (l : List ℕ). sweepOf l ts (length answers)) (image-is xs s out to) ∙ sweep-back xs (one .0) ts (length answers) e o
+      ∙ ap (λ (l : List ℕ). record { positions = map (λ t. smaller t l) ts; answer = found 0 (different l ts) }) (one .1)
+
+  -- the answers hold the positions and nothing else
+  answers-are : sweepOutput s ts answers ≡ positions
+  unfolding sweepOutput
+  answers-are =
+      ap (λ (r : Sweep). atFront (r .positions) answers) swept-as
+      ∙ ap (λ (l : List ℕ). positions ++ l) (drop-of-length-le answers {i = length positions} (omega (arith, length-map ts (λ t. smaller t (plainList s)))))
+      ∙ append-nil positions
+
+  position-at : (i : ℕ) → i < length ts → getD (sweepOutput s ts answers) i 0 ≡ smaller (getD ts i 0) (plainList s)
+  position-at i h = ap (λ (l : List ℕ). getD l i 0) answers-are ∙ map-at (λ t. smaller t (plainList s)) ts i h
+
+  sweeps : SweepsAs s ts answers (different (plainList s) ts)
+  sweeps = record {
+    sweep = ap (λ (r : Sweep). r .answer) swept-as;
+    searches = λ i h. searches s a (getD ts i 0) ∙ ap (λ (p : ℕ). found p (length (path (plainList s) (getD ts i 0)))) (sym (position-at i h));
+    positions = position-at;
+    count = ap length answers-are ∙ length-map ts (λ t. smaller t (plainList s));
+    different-nodes = refl;
+    at-most-pins = sweep-finds .pins (plainList s) ts;
+    at-most-paths = sweep-finds .heights (plainList s) ts;
+  }
+
+  nodes-of : Answer → ℕ
+  nodes-of (found p k) = k
+  nodes-of (stopped r c) = 0
+
+  is-found : Answer → Bool
+  is-found (found p k) = true
+  is-found (stopped r c) = false
+
+  code-sweeps : (r : Swept) → swept r ≡ sweepOf s ts (length answers) .answer → CodeSweepsAs s ts answers r
+  unfolding nodes-of is-found
+  code-sweeps (sweeping.Nodes k) h = subst (SweepsAs s ts answers) (sym (ap nodes-of (h ∙ sweeps .sweep))) sweeps
+  code-sweeps (sweeping.Refused r) h = absurd (true≢false (ap is-found (sym (h ∙ sweeps .sweep))))
+
+pub demand-3 : Demand3
+demand-3 = record { sweeps = sweeps; code-sweeps = λ s ts answers r h a o e. code-sweeps s ts answers a o e r h }

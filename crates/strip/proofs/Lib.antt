@@ -12,4 +12,5 @@ pub mod Plans
 pub mod Promises
 pub mod Readings
 pub mod Same
+pub mod Sweeps
 pub mod Verdicts

@@ -1,24 +1,28 @@
 -- What the project demands of the calls together, each demand one statement. Demand 1 is the contracts of the calls themselves.
--- proofs/Demands proves demand 2 as `demand-2`.
+-- proofs/Demands proves demand 2 as `demand-2` and demand 3 as `demand-3`.
 use mathlib.Core.Path.{_≡_}
 use mathlib.Core.Logic.{_↔_}
 use mathlib.Core.List.{List, _++_}
-use Prim.Native.Nat.{ℕ, _≤_}
-use lib.ListN.{length, drop}
+use Prim.Native.Nat.{ℕ, _*_, _≤_, _<_}
+use lib.Dec.{T}
+use lib.ListN.{length, drop, getD}
 use Rattle.codes.specs.Codes.{kindOf, Within, Holds}
 use Rattle.codes.specs.Choice.{size}
 use Rattle.tree.specs.declared.nodes.Levels.{Levels}
 use Rattle.tree.specs.Shape.{height}
-use Rattle.tree.specs.Lists.{smaller}
+use Rattle.tree.specs.Lists.{ordered, smaller}
 use Rattle.tree.specs.Stored.{storedValues}
 use Rattle.tree.specs.Levels.{codeOf, levelValues, Stores}
 use Rattle.tree.specs.Walks.{found, path}
+use Rattle.tree.specs.Sweeps.{different}
 use Rattle.strip.specs.declared.strip.Checked.{Checked}
 use Rattle.strip.specs.declared.strip.Checked.the-variants.{Pins, Refused}
+use Rattle.strip.specs.declared.strip.Swept.{Swept}
+use Rattle.strip.specs.declared.strip.Swept.the-variants as sweeping
 use Rattle.strip.specs.Outcomes.{gives}
 use Rattle.strip.specs.Image.{image}
 use Rattle.strip.specs.Opening.{opening}
-use Rattle.strip.specs.Calls.{packAnswer, packOutput, searchOf, checkOf, checked, plainList, unpackOf, unpackOutput}
+use Rattle.strip.specs.Calls.{packAnswer, packOutput, searchOf, sweepOf, sweepOutput, swept, checkOf, checked, plainList, unpackOf, unpackOutput}
 use Rattle.strip.specs.Promises.{Packable}
 
 -- A list packs to a strip in an output: pack gives the strip's length and leaves the strip at the front, with the later bytes as they were.
@@ -66,3 +70,31 @@ pub record Demand2 : Type 0 where
   pub one-list : (s xs out : List ℕ) → Within 32 xs → PacksTo xs s out → Packable xs × (xs ≡ plainList s)
   -- on an accepted strip no search is refused, and search gives the number of strikes earlier than its target
   pub searches : (s : List ℕ) → Accepted s → (t : ℕ) → searchOf s t ≡ found (smaller t (plainList s)) (length (path (plainList s) t))
+
+-- ---- demand 3
+
+-- A sweep of a strip by these targets, with these answers lent, that is not refused: it carries `nodes`.
+pub record SweepsAs (s ts answers : List ℕ) (nodes : ℕ) : Type 0 where
+  pub sweep : sweepOf s ts (length answers) .answer ≡ found 0 nodes
+  -- at every index neither is a search of the target refused, and its position is the sweep's: the number of smaller times
+  pub searches : (i : ℕ) → i < length ts
+      → searchOf s (getD ts i 0) ≡ found (getD (sweepOutput s ts answers) i 0) (length (path (plainList s) (getD ts i 0)))
+  pub positions : (i : ℕ) → i < length ts → getD (sweepOutput s ts answers) i 0 ≡ smaller (getD ts i 0) (plainList s)
+  -- there is nothing else in the answers
+  pub count : length (sweepOutput s ts answers) ≡ length ts
+  -- the nodes are the different ones on the paths of those searches
+  pub different-nodes : nodes ≡ different (plainList s) ts
+  pub at-most-pins : nodes ≤ length (plainList s)
+  pub at-most-paths : nodes ≤ length ts * height (length (plainList s))
+
+-- by an answer of the code
+abbrev pub CodeSweepsAs : List ℕ → List ℕ → List ℕ → Swept → Type 0
+CodeSweepsAs s ts answers (sweeping.Nodes k) = SweepsAs s ts answers k
+CodeSweepsAs s ts answers (sweeping.Refused r) = ⊥
+
+-- an accepted strip, targets none of which is less than the one before, and as many answers
+pub record Demand3 : Type 0 where
+  pub sweeps : (s ts answers : List ℕ) → Accepted s → T (ordered ts) → length answers ≡ length ts → SweepsAs s ts answers (different (plainList s) ts)
+  -- and so does the code: any answer that meets the contract of `Strip::sweep`
+  pub code-sweeps : (s ts answers : List ℕ) (r : Swept) → swept r ≡ sweepOf s ts (length answers) .answer
+      → Accepted s → T (ordered ts) → length answers ≡ length ts → CodeSweepsAs s ts answers r

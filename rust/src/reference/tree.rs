@@ -254,6 +254,7 @@ pub fn sweep(
     let mut nodes = 0;
     for (index, &t) in targets.iter().enumerate() {
         let kept = remembered.iter().rposition(|&(_, time)| time >= t);
+        // The last dropped is the first of these.
         let dropped = remembered.split_off(kept.map_or(0, |deepest| deepest + 1));
         // Where it begins or goes on, if it does.
         let mut next = match dropped.first() {

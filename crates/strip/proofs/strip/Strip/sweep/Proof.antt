@@ -1,0 +1,47 @@
+-- `sweep` meets its contract.
+use native.Mathlib.Omega.{arith}
+use mathlib.Core.Path.{refl}
+use Rattle.strip.specs.Calls.{sweepOf, sweepOutput}
+use Rattle.strip.proofs.Openings.{opening-is}
+use borrow.Author.Needs.{needs}
+use Rattle.strip.proofs.strip.Strip.sweep.Statement.{statement}
+use Rattle.strip.proofs.strip.Strip.sweep.Tie as tie
+use Rattle.strip.proofs.strip.Strip.sweep.Reads as reads
+use Rattle.strip.proofs.strip.Strip.sweep.Lts as lts
+use Rattle.strip.proofs.opening.opening_of.Reads as opening-of-reads
+use Rattle.strip.proofs.sweeping.sweep_open.Reads as sweep-open-reads
+
+opening-of-requires : tie.Need-opening-of-requires
+opening-of-requires c κs = search needs
+
+enum-told : tie.Need-enum-told
+enum-told c = search needs
+
+sweep-open-requires : tie.Need-sweep-open-requires
+sweep-open-requires c κs = rw (c .before .enum-told .given .1) at (c .before .before .before .opening-of .ensures .1)
+
+enum-known-status : tie.Need-enum-known-status
+enum-known-status c = search needs
+
+same-length : tie.Need-same-length
+same-length c = search needs
+
+returns : tie.Need-returns
+unfolding sweepOf sweepOutput
+returns c = rw (opening-is (c .before .before .before .before .before .before .before .before .before .before .args .s .now) (c .before .before .before .before .before .before .opening-of .result) _ (c .before .before .before .before .before .before .opening-of .ensures .0) (c .before .before .before .before .enum-told .given .1)) (c .before .before .sweep-open .ensures)
+
+returns-2 : tie.Need-returns-2
+unfolding sweepOf sweepOutput
+returns-2 c = rw (opening-is (c .before .before .before .before .before .before .before .args .s .now) (c .before .before .before .opening-of .result) _ (c .before .before .before .opening-of .ensures .0) (c .before .status .given .1)) (refl, refl)
+
+pub sweep-spec : {M : Type 1} → statement M
+sweep-spec =
+    tie.close
+    (tie.spec
+    opening-of-requires
+    enum-told
+    sweep-open-requires
+    enum-known-status
+    same-length
+    returns
+    returns-2)
