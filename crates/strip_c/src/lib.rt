@@ -2,7 +2,7 @@
 ghost use mathlib.Core.Path.{_≡_};
 ghost use lib.ListN.{length};
 ghost use Rattle.tree.specs.Shape.{height, rootPlace};
-ghost use Rattle.strip.specs.Calls.{packAnswer, packOutput, accessOf, searchOf, searched, upToOf, checkOf, checked, unpackOf, unpackOutput, repeatOf};
+ghost use Rattle.strip.specs.Calls.{packAnswer, packOutput, accessOf, searchOf, searched, upToOf, sweepOf, sweepOutput, checkOf, checked, unpackOf, unpackOutput, repeatOf};
 ghost use Rattle.strip.specs.Refusals.{refusalNumber, carried};
 ghost use Rattle.strip_c.specs.Numbers.{ofRefusal, ofWalk, ofOutcome, ofRepeat};
 use strip::Accessed;
@@ -12,6 +12,7 @@ use strip::Refusal;
 use strip::Repeated;
 use strip::Searched;
 use strip::Strip;
+use strip::Swept;
 
 // 0, what is given and the nodes opened; or the number of a refusal, what it carries and 0.
 #[repr(C)]
@@ -50,6 +51,8 @@ fn number(r: Refusal) -> usize
         Refusal::Image => 12,
         Refusal::Length => 13,
         Refusal::Position => 14,
+        Refusal::Answers => 15,
+        Refusal::TargetsFall(_) => 16,
     }
 }
 
@@ -72,6 +75,8 @@ fn carried(r: Refusal) -> usize
         Refusal::Image => 0,
         Refusal::Length => 0,
         Refusal::Position => 0,
+        Refusal::Answers => 0,
+        Refusal::TargetsFall(i) => i,
     }
 }
 
@@ -154,6 +159,18 @@ pub extern "C" fn gemcotton_up_to(s: &[u8], t: u32) -> Answer
     ensures { λ r. ⌜ r ≡ ofWalk (upToOf (now (s .entry)) t) ⌝ }
 {
     found(Strip::up_to(s, t))
+}
+
+#[no_mangle]
+pub extern "C" fn gemcotton_sweep(answers: &mut [u32], s: &[u8], targets: &[u32]) -> Answer
+    ensures { λ r. ⌜ r ≡ ofWalk (sweepOf (now (s .entry)) (now (targets .entry)) (length (now (answers .entry))) .answer) ⌝ }
+    ensures { λ r. ⌜ now (answers .exit) ≡ sweepOutput (now (s .entry)) (now (targets .entry)) (now (answers .entry)) ⌝ }
+{
+    let swept = Strip::sweep(answers, s, targets);
+    match swept {
+        Swept::Nodes(nodes) => given(0, nodes),
+        Swept::Refused(r) => refused(r),
+    }
 }
 
 #[no_mangle]
