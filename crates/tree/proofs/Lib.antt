@@ -2,6 +2,7 @@
 pub mod Buffers
 pub mod Contents
 pub mod Counts
+pub mod Dropping
 pub mod Fills
 pub mod Heights
 pub mod Inorder

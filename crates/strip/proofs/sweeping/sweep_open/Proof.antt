@@ -10,11 +10,6 @@ use Rattle.strip.proofs.Sweeps.{lengths-differ, targets-fall, targets-f
 use borrow.Author.Needs.{needs}
 use Rattle.strip.proofs.sweeping.sweep_open.Statement.{statement}
 use Rattle.strip.proofs.sweeping.sweep_open.Tie as tie
-use Rattle.strip.proofs.sweeping.sweep_open.Reads as reads
-use Rattle.strip.proofs.sweeping.sweep_open.Lts as lts
-use Rattle.strip.proofs.lists.first_lower.Reads as first-lower-reads
-use Rattle.strip.proofs.refusals.of_walk.Reads as of-walk-reads
-use Rattle.tree.proofs.sweep.Reads as sweep-reads
 
 returns : tie.Need-returns
 returns c =

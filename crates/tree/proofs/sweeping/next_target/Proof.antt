@@ -1,7 +1,6 @@
 -- `next_target` meets its contract.
 use native.Mathlib.Omega.{arith}
 use mathlib.Core.Path.{_≡_, sym, ap, subst, _∙_}
-use mathlib.Core.Bool.{true}
 use Prim.Native.Nat.{ℕ, suc}
 use mathlib.Core.List.{List}
 use native.Mathlib.Nat.{le-refl}
@@ -15,16 +14,10 @@ use Rattle.tree.specs.Sweeps.{Dropped}
 use Rattle.tree.specs.Remembering.{entries, keptIn, start, Remembers, walkedAnswer, droppedIn}
 use Rattle.tree.proofs.NodeFetches.{pins-bound}
 use Rattle.tree.proofs.Steps.{stands-first, kept-end, target-end}
-use Rattle.tree.proofs.Remembering.{keeps-few, keeps-position, resumes-root, left-none, dropped-none, dropped-some, fewer, onward-bounds, stands-onward, resumes-onward}
-use borrow.Author.Needs.{needs}
+use Rattle.tree.proofs.Remembering.{keeps-few, keeps-position, resumes-root}
+use Rattle.tree.proofs.Dropping.{left-none, dropped-none, dropped-some, fewer, onward-bounds, stands-onward, resumes-onward}
 use Rattle.tree.proofs.sweeping.next_target.Statement.{statement}
 use Rattle.tree.proofs.sweeping.next_target.Tie as tie
-use Rattle.tree.proofs.sweeping.next_target.Reads as reads
-use Rattle.tree.proofs.sweeping.next_target.Lts as lts
-use Rattle.tree.proofs.shape.child_of.Reads as child-of-reads
-use Rattle.tree.proofs.targets.go_down.Reads as go-down-reads
-use Rattle.tree.proofs.targets.left_by.Reads as left-by-reads
-use Rattle.tree.proofs.targets.position_of.Reads as position-of-reads
 
 -- what is to be shown of a target's end, by what is dropped before it
 abbrev Ends : Levels → List ℕ → ℕ → ℕ → Walked → Dropped → Type 0

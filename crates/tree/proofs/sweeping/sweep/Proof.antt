@@ -1,8 +1,8 @@
 -- `sweep` meets its contract.
 use native.Mathlib.Omega.{arith}
-use mathlib.Core.Path.{_≡_, refl, sym, ap, subst, _∙_}
-use mathlib.Core.Bool.{Bool, false, cond}
-use mathlib.Core.List.{List, [], _∷_}
+use mathlib.Core.Path.{_≡_, refl, sym, ap, _∙_}
+use mathlib.Core.Bool.{false}
+use mathlib.Core.List.{List, []}
 use Prim.Native.Nat.{ℕ, suc, _+_, _-_, _≤_}
 use borrow.Author.Needs.{needs}
 use lib.Dec.{eqb}
@@ -10,23 +10,18 @@ use native.Mathlib.Numerals.{add-one}
 use borrow.Author.Tests.{ne-eqb, eqb-true}
 use lib.ListN.{length, getD, drop, drop-of-length-le, set, length-set}
 use lib.Seq.{drop-cons}
-use Rattle.tree.specs.declared.targets.Ending.{Ending}
 use Rattle.tree.specs.Levels.{fetchedAt}
 use Rattle.tree.specs.Times.{nodeTime}
 use Rattle.tree.specs.Buffers.{replaced}
 use Rattle.tree.specs.Walks.{found}
 use Rattle.tree.specs.Sweeps.{Sweep, sweepFrom, sweep}
-use Rattle.tree.specs.Remembering.{entries, keptIn, answerBy, RemembersBy, Between, keptAfter, sweepIn}
+use Rattle.tree.specs.Remembering.{entries, answerBy, Between, keptAfter, sweepIn}
 use Rattle.tree.proofs.NodeFetches.{pins-bound}
 use Rattle.tree.proofs.Buffers.{replaced-none, replaced-next}
-use Rattle.tree.proofs.Remembering.{keeps-none, keeps-few, keeps-before-end, sweep-next, sweep-refused}
+use Rattle.tree.proofs.Remembering.{keeps-none, keeps-few, remembers-opened}
+use Rattle.tree.proofs.Dropping.{keeps-before-end, sweep-next}
 use Rattle.tree.proofs.sweeping.sweep.Statement.{statement}
 use Rattle.tree.proofs.sweeping.sweep.Tie as tie
-use Rattle.tree.proofs.sweeping.sweep.Reads as reads
-use Rattle.tree.proofs.sweeping.sweep.Lts as lts
-use Rattle.tree.proofs.sweeping.next_target.Reads as next-target-reads
-use Rattle.tree.proofs.targets.nothing_kept.Reads as nothing-kept-reads
-use Rattle.tree.proofs.targets.position_of.Reads as position-of-reads
 
 abbrev Inv-loop : tie.InvT-loop
 Inv-loop answers₀ s levels targets kept₀ nodes₀ i₀ answers kept nodes i =
@@ -72,7 +67,7 @@ returns c =
     let l = c .before .before .before .before .before .before .loop in
     let t = getD (a .targets .now) (l .i) 0 in
     let first = eqb (l .i) 0 in
-    let e = sweep-refused (a .levels) (a .s .now) (l .kept) first (l .nodes) t (drop (suc (l .i)) (a .targets .now)) _ _ (sym (c .before .before .before .next-target .ensures .0) ∙ ap (answerBy _) (c .before .ending2 .given .1)) in
+    let e = sweep-next (a .levels) (a .s .now) (l .kept) first (l .nodes) t (drop (suc (l .i)) (a .targets .now)) _ (sym (c .before .before .before .next-target .ensures .0) ∙ ap (answerBy _) (c .before .ending2 .given .1)) in
     let d = ap (sweepIn (a .levels) (a .s .now) (l .kept) first (l .nodes)) (drop-cons (a .targets .now) (l .i) 0 (omega arith)) ∙ e in
     (sym (l .inv .3 ∙ ap (λ (x : Sweep). x .answer) d), sym (l .inv .4 ∙ ap (λ (x : Sweep). replaced (l .answers) (l .i) (x .positions)) d ∙ replaced-none (l .answers) (l .i)))
 
@@ -81,16 +76,18 @@ position-of-requires c κs =
     let a = c .before .before .before .before .before .before .before .before .before .before .before .before .args in
     let l = c .before .before .before .before .before .before .before .loop in
     let t = getD (a .targets .now) (l .i) 0 in
-    let left = subst (λ (e : Ending). RemembersBy (a .levels) (a .s .now) (c .before .before .before .before .next-target .result .kept) e (keptAfter (a .levels) (a .s .now) (l .kept) (eqb (l .i) 0) t)) (c .before .before .ending .given .1) (c .before .before .before .before .next-target .ensures .1) in
-    keeps-few (a .levels) (a .s .now) (c .before .before .before .before .next-target .result .kept) (c .before .before .before .before .before .before .before .before .before .before .before .before .pre .0) (left .1 .keeps)
+    let r = c .before .before .before .before .next-target .result in
+    let left = remembers-opened (a .levels) (a .s .now) r _ (keptAfter (a .levels) (a .s .now) (l .kept) (eqb (l .i) 0) t) (c .before .before .ending .given .1) (c .before .before .before .before .next-target .ensures .1) in
+    keeps-few (a .levels) (a .s .now) (r .kept) (c .before .before .before .before .before .before .before .before .before .before .before .before .pre .0) (left .1 .keeps)
 
 cast-answers : tie.Need-cast-answers Inv-loop μ-loop
 cast-answers c =
     let a = c .before .before .before .before .before .before .before .before .before .before .before .before .before .args in
     let l = c .before .before .before .before .before .before .before .before .loop in
     let t = getD (a .targets .now) (l .i) 0 in
-    let left = subst (λ (e : Ending). RemembersBy (a .levels) (a .s .now) (c .before .before .before .before .before .next-target .result .kept) e (keptAfter (a .levels) (a .s .now) (l .kept) (eqb (l .i) 0) t)) (c .before .before .before .ending .given .1) (c .before .before .before .before .before .next-target .ensures .1) in
-    omega (arith, c .position-of .ensures, keeps-before-end (a .levels) (a .s .now) (c .before .before .before .before .before .next-target .result .kept) (left .1 .keeps), pins-bound (a .levels) (a .s .now) (c .before .before .before .before .before .before .before .before .before .before .before .before .before .pre .0))
+    let r = c .before .before .before .before .before .next-target .result in
+    let left = remembers-opened (a .levels) (a .s .now) r _ (keptAfter (a .levels) (a .s .now) (l .kept) (eqb (l .i) 0) t) (c .before .before .before .ending .given .1) (c .before .before .before .before .before .next-target .ensures .1) in
+    omega (arith, c .position-of .ensures, keeps-before-end (a .levels) (a .s .now) (r .kept) (left .1 .keeps), pins-bound (a .levels) (a .s .now) (c .before .before .before .before .before .before .before .before .before .before .before .before .before .pre .0))
 
 mul-answers : tie.Need-mul-answers Inv-loop μ-loop
 mul-answers c = omega arith
@@ -117,10 +114,10 @@ loop-again c =
     let ts = drop (suc i) (a .targets .now) in
     let first = eqb i 0 in
     let kept = keptAfter (a .levels) (a .s .now) (l .kept) first t in
-    let left = subst (λ (e : Ending). RemembersBy (a .levels) (a .s .now) (r .kept) e kept) (c .before .before .before .ending .given .1) (c .before .before .before .before .before .next-target .ensures .1) in
+    let left = remembers-opened (a .levels) (a .s .now) r k kept (c .before .before .before .ending .given .1) (c .before .before .before .before .before .next-target .ensures .1) in
     let later : eqb (i + 1) 0 ≡ false = ne-eqb (i + 1) 0 (λ e. omega arith) in
     let e = ap (sweepIn (a .levels) (a .s .now) (l .kept) first (l .nodes)) (drop-cons (a .targets .now) i 0 (omega arith))
-    ∙ sweep-next (a .levels) (a .s .now) (l .kept) first (l .nodes) t ts (c .position-of .result) k
+    ∙ sweep-next (a .levels) (a .s .now) (l .kept) first (l .nodes) t ts (found (c .position-of .result) k)
     (sym (c .before .before .before .before .before .next-target .ensures .0) ∙ ap (answerBy _) (c .before .before .before .ending .given .1) ∙ ap (λ (p : ℕ). found p k) (sym (c .position-of .ensures))) in
     let on : sweepFrom n read (suc n) kept k ts ≡ sweepIn (a .levels) (a .s .now) (r .kept) (eqb (i + 1) 0) k (drop (i + 1) (a .targets .now)) =
     rw (later, add-one i) (ap (λ (us : List ℕ). sweepFrom n read (suc n) us k ts) (sym (left .0))) in (

@@ -4,7 +4,7 @@ use mathlib.Core.Bool.{cond}
 use mathlib.Core.Logic.{⊎-elim}
 use mathlib.Core.Path.{_≡_, refl, sym, ap, _∙_}
 use mathlib.Core.List.{List}
-use Prim.Native.Nat.{ℕ, _+_, _-_, _≤_, _<_}
+use Prim.Native.Nat.{ℕ, _+_}
 use borrow.Author.Tests.{lt-ltb, le-ltb}
 use borrow.Author.Needs.{needs}
 use lib.Dec.{ltb}
@@ -21,13 +21,6 @@ use Rattle.tree.proofs.Steps.{stands-pins, stands-place, stands-rank, s
 use Rattle.tree.proofs.Remembering.{keeps-few, keeps-position, room, more, added, resumes-child, kept-child}
 use Rattle.tree.proofs.targets.go_down.Statement.{statement}
 use Rattle.tree.proofs.targets.go_down.Tie as tie
-use Rattle.tree.proofs.targets.go_down.Reads as reads
-use Rattle.tree.proofs.targets.go_down.Lts as lts
-use Rattle.tree.proofs.nodes.open_node.Reads as open-node-reads
-use Rattle.tree.proofs.shape.child_of.Reads as child-of-reads
-use Rattle.tree.proofs.shape.height.Reads as height-reads
-use Rattle.tree.proofs.shape.root_place.Reads as root-place-reads
-use Rattle.tree.proofs.shape.side_of.Reads as side-of-reads
 
 abbrev Inv-loop : tie.InvT-loop
 Inv-loop s target v above nodes levels kept₀ v₀ here₀ time₀ nodes₀ depth₀ kept v' here time nodes' depth =

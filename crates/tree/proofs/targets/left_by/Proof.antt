@@ -5,11 +5,9 @@ use mathlib.Core.Path.{_≡_, refl, sym, _∙_}
 use lib.ListN.{getD}
 use borrow.Author.Tests.{lt-ltb, le-ltb}
 use Rattle.tree.specs.Remembering.{leftBy}
-use Rattle.tree.proofs.Remembering.{left-step}
+use Rattle.tree.proofs.Dropping.{left-step}
 use Rattle.tree.proofs.targets.left_by.Statement.{statement}
 use Rattle.tree.proofs.targets.left_by.Tie as tie
-use Rattle.tree.proofs.targets.left_by.Reads as reads
-use Rattle.tree.proofs.targets.left_by.Lts as lts
 
 abbrev Inv-loop : tie.InvT-loop
 Inv-loop target kept count₀ count = (count ≤ 16) × (leftBy (kept .times) target count ≡ leftBy (kept .times) target count₀)

@@ -4,8 +4,6 @@ use Rattle.tree.proofs.Remembering.{position-last}
 use borrow.Author.Needs.{needs}
 use Rattle.tree.proofs.targets.position_of.Statement.{statement}
 use Rattle.tree.proofs.targets.position_of.Tie as tie
-use Rattle.tree.proofs.targets.position_of.Reads as reads
-use Rattle.tree.proofs.targets.position_of.Lts as lts
 
 returns : tie.Need-returns
 returns c = search needs

@@ -1,23 +1,16 @@
 -- `search` meets its contract.
-use native.Mathlib.Omega.{arith}
-use mathlib.Core.Path.{_≡_, sym, ap, subst, _∙_}
+use mathlib.Core.Path.{sym, ap, subst, _∙_}
 use Prim.Native.Nat.{ℕ}
 use Rattle.tree.specs.declared.targets.Remembered.{Remembered}
-use Rattle.tree.specs.declared.targets.Ending.{Ending}
 use Rattle.tree.specs.Levels.{fetchedAt}
 use Rattle.tree.specs.Times.{nodeTime}
 use Rattle.tree.specs.Walks.{found, keptFrom, targetFrom}
-use Rattle.tree.specs.Remembering.{entries, keptIn, positionBy, answerBy, Keeps, RemembersBy}
+use Rattle.tree.specs.Remembering.{entries, keptIn, positionBy, answerBy, Keeps}
 use Rattle.tree.proofs.Steps.{stands-first}
-use Rattle.tree.proofs.Remembering.{keeps-none, keeps-few, resumes-root}
+use Rattle.tree.proofs.Remembering.{keeps-none, keeps-few, resumes-root, remembers-opened}
 use borrow.Author.Needs.{needs}
 use Rattle.tree.proofs.walking.search.Statement.{statement}
 use Rattle.tree.proofs.walking.search.Tie as tie
-use Rattle.tree.proofs.walking.search.Reads as reads
-use Rattle.tree.proofs.walking.search.Lts as lts
-use Rattle.tree.proofs.targets.go_down.Reads as go-down-reads
-use Rattle.tree.proofs.targets.nothing_kept.Reads as nothing-kept-reads
-use Rattle.tree.proofs.targets.position_of.Reads as position-of-reads
 
 nothing-kept-requires : tie.Need-nothing-kept-requires
 nothing-kept-requires c κs = search needs
@@ -36,7 +29,8 @@ position-of-requires : tie.Need-position-of-requires
 position-of-requires c κs =
     let a = c .before .before .before .before .before .before .args in
     let r = c .before .before .before .go-down .result in
-    let left = subst (λ (e : Ending). RemembersBy (a .levels) (a .s .now) (r .kept) e (keptFrom (a .levels .pins) (nodeTime (fetchedAt (a .levels) (a .s .now))) (a .target) (keptIn (c .before .before .before .before .nothing-kept .result)) 1)) (c .before .ending .given .1) (c .before .before .before .go-down .ensures .1) in
+    let nodes = c .before .ending .given .0 .0 in
+    let left = remembers-opened (a .levels) (a .s .now) r nodes (keptFrom (a .levels .pins) (nodeTime (fetchedAt (a .levels) (a .s .now))) (a .target) (keptIn (c .before .before .before .before .nothing-kept .result)) 1) (c .before .ending .given .1) (c .before .before .before .go-down .ensures .1) in
     keeps-few (a .levels) (a .s .now) (r .kept) (c .before .before .before .before .before .before .pre) (left .1 .keeps)
 
 enum-known-ending-2 : tie.Need-enum-known-ending-2

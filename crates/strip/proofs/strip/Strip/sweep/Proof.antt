@@ -1,15 +1,10 @@
 -- `sweep` meets its contract.
-use native.Mathlib.Omega.{arith}
 use mathlib.Core.Path.{refl}
 use Rattle.strip.specs.Calls.{sweepOf, sweepOutput}
 use Rattle.strip.proofs.Openings.{opening-is}
 use borrow.Author.Needs.{needs}
 use Rattle.strip.proofs.strip.Strip.sweep.Statement.{statement}
 use Rattle.strip.proofs.strip.Strip.sweep.Tie as tie
-use Rattle.strip.proofs.strip.Strip.sweep.Reads as reads
-use Rattle.strip.proofs.strip.Strip.sweep.Lts as lts
-use Rattle.strip.proofs.opening.opening_of.Reads as opening-of-reads
-use Rattle.strip.proofs.sweeping.sweep_open.Reads as sweep-open-reads
 
 opening-of-requires : tie.Need-opening-of-requires
 opening-of-requires c κs = search needs

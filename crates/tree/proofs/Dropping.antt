@@ -1,0 +1,163 @@
+-- What a later target drops of the remembered nodes, and where it goes on.
+use mathlib.Core.Path.{_≡_, refl, ap, _∙_}
+use mathlib.Core.Bool.{Bool, true, false, cond}
+use mathlib.Core.List.{List, _∷_}
+use Prim.Native.Nat.{ℕ, zero, suc, _+_, _-_, _≤_, _<_}
+use native.Mathlib.Nat.{le-refl}
+use native.Mathlib.Decide.{decLt}
+use native.Mathlib.Omega.{arith}
+use lib.Dec.{ltb}
+use lib.ListN.{getD}
+use borrow.Author.Tests.{lt-ltb, le-ltb}
+use Rattle.tree.specs.declared.shape.Stretch.{Stretch}
+use Rattle.tree.specs.declared.nodes.Levels.{Levels}
+use Rattle.tree.specs.declared.targets.Remembered.{Remembered}
+use Rattle.tree.specs.Shape.{height, rootPlace, childOf, stretch}
+use Rattle.tree.specs.Levels.{fetchedAt, Fits}
+use Rattle.tree.specs.Times.{Time, known, nodeTime}
+use Rattle.tree.specs.Walks.{Answer, below}
+use Rattle.tree.specs.Sweeps.{dropped, positionThen, sweepFrom}
+use Rattle.tree.specs.Standing.{Stands}
+use Rattle.tree.specs.Remembering.{entries, keptIn, positionIn, positionBy, leftBy, Keeps, Resumes, Rests, targetIn, keptAfter, sweepIn}
+use Rattle.tree.proofs.Stretches.{stretch-child, rank-in}
+use Rattle.tree.proofs.Walks.{child-bounds, parent-of, height-child}
+use Rattle.tree.proofs.Remembering.{keeps-few}
+use Rattle.tree.proofs.Steps.{stands-at}
+
+-- ---- how many are left
+
+pub left-step : (times : List ℕ) (t c : ℕ) → 1 ≤ c → leftBy times t c ≡ cond (ltb (getD times (c - 1) 0) t) (leftBy times t (c - 1)) c
+unfolding leftBy
+left-step times t zero h = absurd (omega arith)
+left-step times t (suc c) h = let e : suc c - 1 ≡ c = omega arith in rw e
+
+pub left-none : (times : List ℕ) (t c : ℕ) → c ≡ 0 → leftBy times t c ≡ c
+unfolding leftBy
+left-none times t c e = rw e
+
+pub left-le : (times : List ℕ) (t c : ℕ) → leftBy times t c ≤ c
+unfolding leftBy
+left-le times t zero = le-refl 0
+left-le times t (suc c) = go (ltb (getD times c 0) t) (left-le times t c)
+  where
+    go : (b : Bool) → leftBy times t c ≤ c → cond b (leftBy times t c) (suc c) ≤ suc c
+    go true h = omega arith
+    go false h = le-refl (suc c)
+
+module _ (levels : Levels) (s : List ℕ) where
+  abbrev n : ℕ
+  n = levels .pins
+
+  -- ---- nodes dropped, of which m of c are left
+
+  module _ (w : Remembered) (k : Keeps levels s w) (t : ℕ) where
+    abbrev read : ℕ → Time
+    read = nodeTime (fetchedAt levels s)
+
+    -- the node to go on from
+    abbrev onFrom : ℕ → ℕ → ℕ → ℕ
+    onFrom from m c = cond (ltb m c) (childOf true (getD (w .nodes) m 0)) from
+
+    last-dropped : (from c m : ℕ) → m ≤ c → onFrom (childOf true (getD (w .nodes) c 0)) m c ≡ onFrom from m (suc c)
+    last-dropped from c m l = elim (decLt m c) [
+      | yes y ↦ rw (lt-ltb m c y, lt-ltb m (suc c) (omega arith))
+      | no y ↦ let e : m ≡ c = omega arith in rw (e, le-ltb c c (le-refl c), lt-ltb c (suc c) (le-refl (suc c)))
+    ]
+
+    dropped-in : (c : ℕ) → c ≤ w .count → (from : ℕ)
+        → dropped (below read t) from (entries (w .nodes) c) ≡ record { from = onFrom from (leftBy (w .times) t c) c; kept = entries (w .nodes) (leftBy (w .times) t c) }
+    unfolding dropped entries leftBy
+    dropped-in zero h from = refl
+    dropped-in (suc c) h from =
+        rw (ap (λ (z : Time). ltb (known z) t) (k .entry c h .time))
+        (go (ltb (getD (w .times) c 0) t) (dropped-in c (omega arith) (childOf true (getD (w .nodes) c 0))) (left-le (w .times) t c))
+      where
+        go : (b : Bool) → dropped (below read t) (childOf true (getD (w .nodes) c 0)) (entries (w .nodes) c)
+            ≡ record { from = onFrom (childOf true (getD (w .nodes) c 0)) (leftBy (w .times) t c) c; kept = entries (w .nodes) (leftBy (w .times) t c) }
+            → leftBy (w .times) t c ≤ c
+            → cond b (dropped (below read t) (childOf true (getD (w .nodes) c 0)) (entries (w .nodes) c)) (record { from = from; kept = entries (w .nodes) (suc c) })
+            ≡ record { from = onFrom from (cond b (leftBy (w .times) t c) (suc c)) (suc c); kept = entries (w .nodes) (cond b (leftBy (w .times) t c) (suc c)) }
+        go true e l = e ∙ ap (λ (f : ℕ). record { from = f; kept = entries (w .nodes) (leftBy (w .times) t c) }) (last-dropped from c (leftBy (w .times) t c) l)
+        go false e l = rw (le-ltb (suc c) (suc c) (le-refl (suc c)))
+
+    pub dropped-none : (from : ℕ) → leftBy (w .times) t (w .count) ≡ w .count → dropped (below read t) from (keptIn w) ≡ record { from = from; kept = keptIn w }
+    dropped-none from e = dropped-in (w .count) (le-refl (w .count)) from ∙ rw (e, le-ltb (w .count) (w .count) (le-refl (w .count)))
+
+    pub dropped-some : (from m : ℕ) → m ≡ leftBy (w .times) t (w .count) → m < w .count
+        → dropped (below read t) from (keptIn w) ≡ record { from = childOf true (getD (w .nodes) m 0); kept = entries (w .nodes) m }
+    dropped-some from m e h = dropped-in (w .count) (le-refl (w .count)) from ∙ rw (← e, lt-ltb m (w .count) h)
+
+  pub fewer : (w : Remembered) (t m : ℕ) → Fits levels s → Keeps levels s w → m ≡ leftBy (w .times) t (w .count) → (m ≡ w .count → ⊥) → (m < w .count) × (m < 16)
+  fewer w t m f k e d = omega (arith, left-le (w .times) t (w .count), keeps-few levels s w f k)
+
+  -- ---- ranks fall from entry to entry
+
+  module _ (w : Remembered) (k : Keeps levels s w) where
+    -- since an entry's rank is before the end of its stretch
+    rank-before : (i : ℕ) → i < w .count → getD (w .ranks) i 0 < positionIn (w .ranks) i n
+    rank-before i h =
+        let e = k .entry i h in
+        omega (arith, e .ranked, e .ends, rank-in n (getD (w .nodes) i 0) (e .one) (e .among))
+
+    position-le : (c : ℕ) → c ≤ w .count → positionIn (w .ranks) c n ≤ n
+    position-le zero h = le-refl n
+    position-le (suc c) h = omega (arith, rank-before c h, position-le c (omega arith))
+
+    pub keeps-before-end : positionBy w n ≤ n
+    keeps-before-end = position-le (w .count) (le-refl (w .count))
+
+    position-falls : (c m : ℕ) → c ≤ w .count → m < c → positionIn (w .ranks) c n + c ≤ getD (w .ranks) m 0 + 1 + m
+    position-falls zero m h l = absurd (omega arith)
+    position-falls (suc c) m h l = elim (decLt m c) [
+      | yes x ↦ omega (arith, position-falls c m (omega arith) x, rank-before c h)
+      | no x ↦ let e : m ≡ c = omega arith in rw e (omega arith)
+    ]
+
+  -- ---- where the walk goes on after nodes are dropped, m being left
+
+  module _ (w : Remembered) (k : ℕ) (r : Rests levels s w k) (m : ℕ) (h : m < w .count) where
+    abbrev node : ℕ
+    node = getD (w .nodes) m 0
+
+    abbrev onward : Stretch
+    onward = record { start = getD (w .ranks) m 0 + 1; pins = positionIn (w .ranks) m n - (getD (w .ranks) m 0 + 1) }
+
+    -- the numbers that the code takes from the arrays
+    pub onward-bounds : (node ≤ n) × (getD (w .ranks) m 0 + 1 ≤ positionIn (w .ranks) m n) × (positionIn (w .ranks) m n ≤ n)
+    onward-bounds =
+        let e = r .keeps .entry m h in
+        (e .among, omega (arith, rank-before w (r .keeps) m h), position-le w (r .keeps) m (omega arith))
+
+    pub stands-onward : Stands levels s (childOf true node) (height (childOf true node) - 1) onward (getD (w .times) m 0)
+    stands-onward =
+        let e = r .keeps .entry m h in
+        let i = rank-in n node (e .one) (e .among) in
+        let st : stretch n node .start + rootPlace (stretch n node .pins) ≡ getD (w .ranks) m 0 + 1 = omega (arith, e .ranked) in
+        let pi : stretch n node .pins - rootPlace (stretch n node .pins) ≡ positionIn (w .ranks) m n - (getD (w .ranks) m 0 + 1) = omega (arith, e .ends, e .ranked) in
+        stands-at levels s (childOf true node) onward (getD (w .times) m 0) (omega (arith, child-bounds true node, e .one))
+        (stretch-child n true node (e .one) ∙ rw (st, pi))
+        (omega (arith, onward-bounds))
+        (rw (parent-of true node) (e .time))
+
+    pub resumes-onward : Resumes levels s (record { count = m; nodes = w .nodes; times = w .times; ranks = w .ranks }) (childOf true node) onward k
+    resumes-onward =
+        let e = r .keeps .entry m h in
+        record {
+          keeps = record {
+            nodes-size = r .keeps .nodes-size;
+            times-size = r .keeps .times-size;
+            ranks-size = r .keeps .ranks-size;
+            entry = λ i l. r .keeps .entry i (omega arith);
+          };
+          ends = omega (arith, onward-bounds);
+          deep = rw (height-child true node (e .one)) (omega (arith, e .deep));
+          few = omega (arith, r .few, position-falls w (r .keeps) (w .count) m (le-refl (w .count)) h);
+        }
+
+  -- ---- a target of a sweep
+
+  -- by what it answers
+  pub sweep-next : (w : Remembered) (first : Bool) (k t : ℕ) (ts : List ℕ) (a : Answer) → targetIn levels s w first t k ≡ a
+      → sweepIn levels s w first k (t ∷ ts) ≡ positionThen a (λ j. sweepFrom n (nodeTime (fetchedAt levels s)) (suc n) (keptAfter levels s w first t) j ts)
+  unfolding sweepFrom
+  sweep-next w first k t ts a e = rw e
