@@ -76,12 +76,13 @@ struct gemcotton_answer gemcotton_search(const uint8_t *strip, size_t strip_leng
  * opening is refused; otherwise what a search for the time plus 1 gives. */
 struct gemcotton_answer gemcotton_up_to(const uint8_t *strip, size_t strip_length, uint32_t time);
 
-/* Searches for targets, none less than the one before, in one walk. Writes to `answers` what a search for each target gives, and gives 0 and
- * the nodes opened in all: on a strip that some list packs to, the different nodes that those searches open. No targets open none.
- * Refused after opening with 15, then 16, with nothing written. The first target goes as a search does, and the nodes left by
- * their left side are remembered. Each later target drops remembered nodes from the deepest up while their time is below it, and
- * goes on from the right child of the last dropped, if any. The position is that of the deepest remembered node, or the pin count.
- * A node with 9 or 10 ends the sweep: the answers of the targets before the one that comes to it have been written, no others. */
+/* Looks targets up, none less than the one before, in one walk. Writes the position of each to `answers`, and gives 0 and the nodes
+ * opened in all. On a strip that some list packs to, each position is what a search for the target gives, and the nodes are the
+ * different ones that those searches open. No targets open no node. The first target goes as a search does, and the nodes left by
+ * their left side are remembered. Each later one drops remembered nodes from the deepest up while their time is below it, and goes
+ * on from the right child of the last dropped, if any. Its position is that of the deepest remembered node, or the pin count.
+ * Refused after opening with 15, then 16, with nothing written. A node with 9 or 10 ends the sweep: the answers of the targets
+ * before the one that comes to it have been written, and no others. */
 struct gemcotton_answer gemcotton_sweep(uint32_t *answers, size_t answers_length, const uint8_t *strip, size_t strip_length,
                                         const uint32_t *targets, size_t targets_length);
 

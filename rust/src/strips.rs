@@ -299,6 +299,27 @@ pub fn cuts_and_bytes_added(random: &mut Random, mut test: impl FnMut(&[u8], usi
     }
 }
 
+/// Strips with the part of one level cut short, or as it was.
+pub fn parts_cut_short(random: &mut Random, mut test: impl FnMut(&[u8], &mut Random)) {
+    for n in few_pins() {
+        for levels in many_levels(n, random) {
+            for level in 0..levels.len() {
+                let mut levels = levels.clone();
+                let part = &mut levels[level].1;
+                let length = part.len();
+                let cuts = [
+                    0,
+                    length / 2,
+                    length.saturating_sub(1),
+                    random.below(length + 1),
+                ];
+                part.truncate(cuts[random.below(cuts.len())]);
+                test(&image(n, &levels), random);
+            }
+        }
+    }
+}
+
 /// Strips with up to three bytes changed.
 pub fn changes_of_bytes(random: &mut Random, mut test: impl FnMut(&[u8], &mut Random)) {
     for n in few_pins() {

@@ -16,7 +16,7 @@ use gemcotton_tests::reference::tree::{
 use gemcotton_tests::reference::{choose, encode, size};
 use gemcotton_tests::strips::{
     change_bytes, changed_b, changes_of_bytes, changes_of_one_byte, cuts_and_bytes_added,
-    damaged_levels, faulty, many_levels, most_stored, pins, random_parts, random_strips,
+    damaged_levels, faulty, most_stored, parts_cut_short, pins, random_parts, random_strips,
     surrounded, with_number, with_value, wrapping_sums, A, B, TIMES_A,
 };
 use gemcotton_tests::tally::Tally;
@@ -651,20 +651,11 @@ fn every_cut_and_bytes_added() {
 }
 
 #[test]
-fn parts_cut_short() {
-    let mut random = Random(16);
+fn parts_of_levels_cut_short() {
     let mut met = Met::default();
-    for n in few_pins() {
-        for levels in many_levels(n, &mut random) {
-            for level in 0..levels.len() {
-                let mut levels = levels.clone();
-                let part = &mut levels[level].1;
-                let length = part.len();
-                part.truncate([0, length / 2, length.saturating_sub(1)][random.below(3)]);
-                check_damaged(&image(n, &levels), &mut met, &mut random);
-            }
-        }
-    }
+    parts_cut_short(&mut Random(16), |strip, random| {
+        check_damaged(strip, &mut met, random);
+    });
     met.require(&[9], 1000);
     met.check.require_none(10);
     assert!(met.gaps >= 1000, "{met:?}");

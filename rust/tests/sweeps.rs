@@ -15,7 +15,7 @@ use gemcotton_tests::reference::tree::{
 };
 use gemcotton_tests::strips::{
     changed_b, changes_of_bytes, changes_of_one_byte, cuts_and_bytes_added, damaged_levels, faulty,
-    many_levels, most_stored, pins, random_parts, random_strips, surrounded, with_number,
+    most_stored, parts_cut_short, pins, random_parts, random_strips, surrounded, with_number,
     with_value, wrapping_sums, A, B, TIMES_A,
 };
 use gemcotton_tests::tally::Tally;
@@ -491,19 +491,11 @@ fn every_cut_and_bytes_added() {
 }
 
 #[test]
-fn parts_cut_short() {
-    let mut random = Random(14);
+fn parts_of_levels_cut_short() {
     let mut met = Met::default();
-    for n in few_pins() {
-        for levels in many_levels(n, &mut random) {
-            for level in 0..levels.len() {
-                let mut levels = levels.clone();
-                let part = &mut levels[level].1;
-                part.truncate(random.below(part.len() + 1));
-                check_damaged(&image(n, &levels), &mut met, &mut random);
-            }
-        }
-    }
+    parts_cut_short(&mut Random(14), |strip, random| {
+        check_damaged(strip, &mut met, random);
+    });
     met.nothing.require(&[9], 500);
     met.answers.require(&[0, 9], 500);
     // A part cut short gives no other value than the whole one.

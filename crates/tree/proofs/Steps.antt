@@ -16,7 +16,7 @@ use Rattle.tree.specs.declared.nodes.Levels.{Levels}
 use Rattle.tree.specs.Shape.{height, rootPlace, childOf, sideOf, stretch, rank}
 use Rattle.tree.specs.Levels.{fetchedAt, Fits}
 use Rattle.tree.specs.Times.{Time, at, refused, under, known, nodeTime}
-use Rattle.tree.specs.Walks.{Answer, found, stopped, met, towardFrom, toward, lastOf, accessAnswer, never, below, searchNodes, remember, position, keptFrom, targetFrom}
+use Rattle.tree.specs.Walks.{Answer, found, stopped, met, towardFrom, toward, lastOf, accessAnswer, below, searchNodes, remember, position, keptFrom, targetFrom}
 use Rattle.tree.specs.Standing.{Stands, accessFrom}
 use Rattle.tree.proofs.Heights.{digits, place-in}
 use Rattle.tree.proofs.Stretches.{stretch-root, stretch-child, side-in, pins-of-node, node-of-pins}
@@ -99,22 +99,22 @@ module _ {levels : Levels} {s : List ℕ} {v depth : ℕ} {here : Stretch} {abov
 module _ (n : ℕ) (time : ℕ → Time) (t : ℕ) where
   pub kept-end : (kept : List ℕ) (v : ℕ) → n < v → keptFrom n time t kept v ≡ kept
   unfolding remember
-  kept-end kept v h = rw (walk-out n never (below time t) v h)
+  kept-end kept v h = rw (walk-out n _ (below time t) v h)
 
   pub target-end : (kept : List ℕ) (k v : ℕ) → n < v → targetFrom n time t kept k v ≡ found (position n kept) k
   unfolding targetFrom remember met
-  target-end kept k v h = rw (walk-out n never (below time t) v h) (ap (found (position n kept)) (omega arith))
+  target-end kept k v h = rw (walk-out n _ (below time t) v h) (ap (found (position n kept)) (omega arith))
 
   pub target-refused : (kept : List ℕ) (k v r u : ℕ) → 1 ≤ v → v ≤ n → time v ≡ refused r u → targetFrom n time t kept k v ≡ stopped r u
   unfolding targetFrom
-  target-refused kept k v r u h l e = rw (walk-on n never (below time t) v h l) (met-refused time _ v r u _ e)
+  target-refused kept k v r u h l e = rw (walk-on n _ (below time t) v h l) (met-refused time _ v r u _ e)
 
   -- at a node with time x
   module _ (kept : List ℕ) (v x : ℕ) (h : 1 ≤ v) (l : v ≤ n) (e : time v ≡ at x) where
     pub kept-step : keptFrom n time t kept v ≡ keptFrom n time t (cond (ltb x t) kept (v ∷ kept)) (childOf (ltb x t) v)
     unfolding remember
     kept-step =
-        rw (walk-on n never (below time t) v h l)
+        rw (walk-on n _ (below time t) v h l)
         (ap (λ (z : Time). keptFrom n time t (cond (ltb (known z) t) kept (v ∷ kept)) (childOf (ltb (known z) t) v)) e)
 
     pub target-step : (k : ℕ) → targetFrom n time t kept k v ≡ targetFrom n time t (cond (ltb x t) kept (v ∷ kept)) (k + 1) (childOf (ltb x t) v)
@@ -125,7 +125,7 @@ module _ (n : ℕ) (time : ℕ → Time) (t : ℕ) where
         let m = length (later (at x)) in
         let j : k + suc m ≡ k + 1 + m = omega arith in
         ap (λ (p : ℕ). met time (found p (k + length (searchNodes n time t v))) (searchNodes n time t v)) (ap (position n) kept-step)
-        ∙ rw (walk-on n never (below time t) v h l)
+        ∙ rw (walk-on n _ (below time t) v h l)
         (met-fine time _ v x _ e ∙ ap (λ (z : Time). on (later z) (position n (keptFrom n time t (cond (ltb x t) kept (v ∷ kept)) (childOf (ltb x t) v))) (k + suc (length (later z)))) e
         ∙ ap (on (later (at x)) _) j)
 

@@ -76,7 +76,7 @@ pub(crate) fn open_node(
     }
 }
 
-// Opens node v of a strip with these levels, likewise. Access and search do this themselves, since handing on all levels takes time.
+// Opens node v of a strip with these levels, likewise. The walks to one node do this themselves, since handing on all levels takes time.
 pub(crate) fn open_in(s: &[u8], levels: Levels, depth: usize, v: usize, above: u32) -> Opened
     requires { ⌜ Fits levels (now s) ⌝ }
     requires { ⌜ (2 ^ depth ≤ v) × (v < 2 * 2 ^ depth) × (v ≤ levels .pins) ⌝ }

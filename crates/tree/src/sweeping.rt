@@ -17,7 +17,7 @@ ghost use Rattle.tree.specs.Levels.{Fits, fetchedAt};
 ghost use Rattle.tree.specs.Times.{nodeTime};
 ghost use Rattle.tree.specs.Buffers.{replaced};
 ghost use Rattle.tree.specs.Sweeps.{sweep, swept};
-ghost use Rattle.tree.specs.Remembering.{walkedAnswer, start, Between, targetIn, keptAfter, Remembers};
+ghost use Rattle.tree.specs.Remembering.{walkedAnswer, Between, targetIn, keptAfter, Remembers};
 
 // The nodes opened in all.
 pub enum Swept {
