@@ -2,7 +2,7 @@
 use mathlib.Core.Path.{_≡_, sym, ap, _∙_}
 use mathlib.Core.List.{List, [], _∷_, _++_, append-assoc, append-nil}
 use Prim.Native.Nat.{ℕ, _+_, _≤_, _<_}
-use native.Mathlib.Nat.{add-zero}
+use native.Mathlib.Nat.{zero-add, add-zero}
 use native.Mathlib.Omega.{arith}
 use lib.ListN.{length, take, drop, set, length-append, length-take, length-drop, take-append-drop}
 use lib.Seq.{take-at, drop-at, drop-drop, length-take-le, append-snoc, sets-eq}
@@ -41,11 +41,15 @@ replaced-around out a b p x q e h =
     let two = one ∙ replaced-more out a b p (x ∷ []) e (omega arith) in
     rw two (replaced-more out a (b + 1) (p ++ x ∷ []) q (omega (arith, length-append p (x ∷ []))) (omega arith) ∙ ap (replaced out a) (append-snoc p x q))
 
--- what was written to the front
 -- one entry more
 pub replaced-next : (out : List ℕ) (i x : ℕ) (q : List ℕ) → i < length out → replaced (set out i x) (i + 1) q ≡ replaced out i (x ∷ q)
 replaced-next out i x q h =
     ap (λ (o : List ℕ). replaced (set o i x) (i + 1) q) (sym (replaced-none out i)) ∙ replaced-around out i i [] x q (add-zero i) h
 
+-- entries from entry 0 on
+pub replaced-front : (out entries : List ℕ) → replaced out 0 entries ≡ entries ++ drop (length entries) out
+replaced-front out entries = rw (zero-add (length entries))
+
+-- what was written to the front
 pub front-of : (out : List ℕ) (p : List ℕ) (n : ℕ) → length p ≡ n → take n (replaced out 0 p) ≡ p
 front-of out p n e = take-at p (drop (0 + length p) out) n e

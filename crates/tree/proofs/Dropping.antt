@@ -15,12 +15,13 @@ use Rattle.tree.specs.declared.targets.Remembered.{Remembered}
 use Rattle.tree.specs.Shape.{height, rootPlace, childOf, stretch}
 use Rattle.tree.specs.Levels.{fetchedAt, Fits}
 use Rattle.tree.specs.Times.{Time, known, nodeTime}
-use Rattle.tree.specs.Walks.{Answer, below}
+use Rattle.tree.specs.Walks.{Answer, isBelow}
 use Rattle.tree.specs.Sweeps.{dropped, positionThen, sweepFrom}
 use Rattle.tree.specs.Standing.{Stands}
-use Rattle.tree.specs.Remembering.{entries, keptIn, positionIn, positionBy, leftBy, Keeps, Resumes, Rests, targetIn, keptAfter, sweepIn}
+use Rattle.tree.specs.Remembering.{entries, keptIn, positionIn, positionBy, leftBy, Keeps, Resumes, Rests, targetIn, keptAfter, sweepOn}
 use Rattle.tree.proofs.Stretches.{stretch-child, rank-in}
 use Rattle.tree.proofs.Walks.{child-bounds, parent-of, height-child}
+use Rattle.tree.proofs.NodeFetches.{pins-bound}
 use Rattle.tree.proofs.Remembering.{keeps-few}
 use Rattle.tree.proofs.Steps.{stands-at}
 
@@ -35,7 +36,7 @@ pub left-none : (times : List ℕ) (t c : ℕ) → c ≡ 0 → leftBy times t c 
 unfolding leftBy
 left-none times t c e = rw e
 
-pub left-le : (times : List ℕ) (t c : ℕ) → leftBy times t c ≤ c
+left-le : (times : List ℕ) (t c : ℕ) → leftBy times t c ≤ c
 unfolding leftBy
 left-le times t zero = le-refl 0
 left-le times t (suc c) = go (ltb (getD times c 0) t) (left-le times t c)
@@ -65,30 +66,27 @@ module _ (levels : Levels) (s : List ℕ) where
     ]
 
     dropped-in : (c : ℕ) → c ≤ w .count → (from : ℕ)
-        → dropped (below read t) from (entries (w .nodes) c) ≡ record { from = onFrom from (leftBy (w .times) t c) c; kept = entries (w .nodes) (leftBy (w .times) t c) }
+        → dropped (isBelow read t) from (entries (w .nodes) c) ≡ record { from = onFrom from (leftBy (w .times) t c) c; kept = entries (w .nodes) (leftBy (w .times) t c) }
     unfolding dropped entries leftBy
     dropped-in zero h from = refl
     dropped-in (suc c) h from =
         rw (ap (λ (z : Time). ltb (known z) t) (k .entry c h .time))
         (go (ltb (getD (w .times) c 0) t) (dropped-in c (omega arith) (childOf true (getD (w .nodes) c 0))) (left-le (w .times) t c))
       where
-        go : (b : Bool) → dropped (below read t) (childOf true (getD (w .nodes) c 0)) (entries (w .nodes) c)
+        go : (b : Bool) → dropped (isBelow read t) (childOf true (getD (w .nodes) c 0)) (entries (w .nodes) c)
             ≡ record { from = onFrom (childOf true (getD (w .nodes) c 0)) (leftBy (w .times) t c) c; kept = entries (w .nodes) (leftBy (w .times) t c) }
             → leftBy (w .times) t c ≤ c
-            → cond b (dropped (below read t) (childOf true (getD (w .nodes) c 0)) (entries (w .nodes) c)) (record { from = from; kept = entries (w .nodes) (suc c) })
+            → cond b (dropped (isBelow read t) (childOf true (getD (w .nodes) c 0)) (entries (w .nodes) c)) (record { from = from; kept = entries (w .nodes) (suc c) })
             ≡ record { from = onFrom from (cond b (leftBy (w .times) t c) (suc c)) (suc c); kept = entries (w .nodes) (cond b (leftBy (w .times) t c) (suc c)) }
         go true e l = e ∙ ap (λ (f : ℕ). record { from = f; kept = entries (w .nodes) (leftBy (w .times) t c) }) (last-dropped from c (leftBy (w .times) t c) l)
         go false e l = rw (le-ltb (suc c) (suc c) (le-refl (suc c)))
 
-    pub dropped-none : (from : ℕ) → leftBy (w .times) t (w .count) ≡ w .count → dropped (below read t) from (keptIn w) ≡ record { from = from; kept = keptIn w }
+    pub dropped-none : (from : ℕ) → leftBy (w .times) t (w .count) ≡ w .count → dropped (isBelow read t) from (keptIn w) ≡ record { from = from; kept = keptIn w }
     dropped-none from e = dropped-in (w .count) (le-refl (w .count)) from ∙ rw (e, le-ltb (w .count) (w .count) (le-refl (w .count)))
 
     pub dropped-some : (from m : ℕ) → m ≡ leftBy (w .times) t (w .count) → m < w .count
-        → dropped (below read t) from (keptIn w) ≡ record { from = childOf true (getD (w .nodes) m 0); kept = entries (w .nodes) m }
+        → dropped (isBelow read t) from (keptIn w) ≡ record { from = childOf true (getD (w .nodes) m 0); kept = entries (w .nodes) m }
     dropped-some from m e h = dropped-in (w .count) (le-refl (w .count)) from ∙ rw (← e, lt-ltb m (w .count) h)
-
-  pub fewer : (w : Remembered) (t m : ℕ) → Fits levels s → Keeps levels s w → m ≡ leftBy (w .times) t (w .count) → (m ≡ w .count → ⊥) → (m < w .count) × (m < 16)
-  fewer w t m f k e d = omega (arith, left-le (w .times) t (w .count), keeps-few levels s w f k)
 
   -- ---- ranks fall from entry to entry
 
@@ -122,11 +120,9 @@ module _ (levels : Levels) (s : List ℕ) where
     abbrev onward : Stretch
     onward = record { start = getD (w .ranks) m 0 + 1; pins = positionIn (w .ranks) m n - (getD (w .ranks) m 0 + 1) }
 
-    -- the numbers that the code takes from the arrays
-    pub onward-bounds : (node ≤ n) × (getD (w .ranks) m 0 + 1 ≤ positionIn (w .ranks) m n) × (positionIn (w .ranks) m n ≤ n)
-    onward-bounds =
-        let e = r .keeps .entry m h in
-        (e .among, omega (arith, rank-before w (r .keeps) m h), position-le w (r .keeps) m (omega arith))
+    -- where it starts and ends
+    onward-in : (getD (w .ranks) m 0 + 1 ≤ positionIn (w .ranks) m n) × (positionIn (w .ranks) m n ≤ n)
+    onward-in = (omega (arith, rank-before w (r .keeps) m h), position-le w (r .keeps) m (omega arith))
 
     pub stands-onward : Stands levels s (childOf true node) (height (childOf true node) - 1) onward (getD (w .times) m 0)
     stands-onward =
@@ -136,7 +132,7 @@ module _ (levels : Levels) (s : List ℕ) where
         let pi : stretch n node .pins - rootPlace (stretch n node .pins) ≡ positionIn (w .ranks) m n - (getD (w .ranks) m 0 + 1) = omega (arith, e .ends, e .ranked) in
         stands-at levels s (childOf true node) onward (getD (w .times) m 0) (omega (arith, child-bounds true node, e .one))
         (stretch-child n true node (e .one) ∙ rw (st, pi))
-        (omega (arith, onward-bounds))
+        (omega (arith, onward-in))
         (rw (parent-of true node) (e .time))
 
     pub resumes-onward : Resumes levels s (record { count = m; nodes = w .nodes; times = w .times; ranks = w .ranks }) (childOf true node) onward k
@@ -149,15 +145,37 @@ module _ (levels : Levels) (s : List ℕ) where
             ranks-size = r .keeps .ranks-size;
             entry = λ i l. r .keeps .entry i (omega arith);
           };
-          ends = omega (arith, onward-bounds);
+          ends = omega (arith, onward-in);
           deep = rw (height-child true node (e .one)) (omega (arith, e .deep));
           few = omega (arith, r .few, position-falls w (r .keeps) (w .count) m (le-refl (w .count)) h);
         }
+
+  -- the numbers that the code takes from the arrays, where m nodes are left and one at least is dropped
+  pub record Onward (w : Remembered) (m : ℕ) : Type 0 where
+    pub less : m < w .count
+    pub room : m < 16
+    pub node-in : getD (w .nodes) m 0 < 65536
+    pub start-in : getD (w .ranks) m 0 + 1 ≤ positionIn (w .ranks) m n
+    pub end-in : positionIn (w .ranks) m n < 65536
+
+  pub onward-bounds : (w : Remembered) (k : ℕ) → Rests levels s w k → Fits levels s → (t m : ℕ) → m ≡ leftBy (w .times) t (w .count)
+      → (m ≡ w .count → ⊥) → Onward w m
+  onward-bounds w k r f t m e d =
+      let h : m < w .count = omega (arith, left-le (w .times) t (w .count)) in
+      let few = pins-bound levels s f in
+      let i = onward-in w k r m h in
+      record {
+        less = h;
+        room = omega (arith, keeps-few levels s w f (r .keeps));
+        node-in = omega (arith, r .keeps .entry m h .among);
+        start-in = i .0;
+        end-in = omega arith;
+      }
 
   -- ---- a target of a sweep
 
   -- by what it answers
   pub sweep-next : (w : Remembered) (first : Bool) (k t : ℕ) (ts : List ℕ) (a : Answer) → targetIn levels s w first t k ≡ a
-      → sweepIn levels s w first k (t ∷ ts) ≡ positionThen a (λ j. sweepFrom n (nodeTime (fetchedAt levels s)) (suc n) (keptAfter levels s w first t) j ts)
+      → sweepOn levels s w first k (t ∷ ts) ≡ positionThen a (λ j. sweepFrom n (nodeTime (fetchedAt levels s)) (suc n) (keptAfter levels s w first t) j ts)
   unfolding sweepFrom
   sweep-next w first k t ts a e = rw e

@@ -14,8 +14,8 @@ use Rattle.tree.specs.Lists.{ordered, smaller}
 use Rattle.tree.specs.Stored.{timeOf}
 use Rattle.tree.specs.Times.{Time, at, known}
 use Rattle.tree.specs.Walks.{walk, found, towardFrom, toward, lastOf, accessAnswer, fromRootIn, fromRoot}
-use Rattle.tree.specs.Walks.{never, below, searchNodes, remember, position, keptFrom, targetFrom, searchAnswer, path}
-use Rattle.tree.specs.Filled.{Under, here, below as deeper}
+use Rattle.tree.specs.Walks.{never, isBelow, searchNodes, remember, position, keptFrom, targetFrom, searchAnswer, path}
+use Rattle.tree.specs.Filled.{Under, here, below}
 use Rattle.tree.proofs.Heights.{height-zero, height-step}
 use Rattle.tree.proofs.Orders.{smaller-le, smaller-first}
 use Rattle.tree.proofs.Walks.{child-bounds, parent-of, walk-out, walk-on, toward-on, walk-same, met-none}
@@ -27,7 +27,7 @@ use Rattle.tree.proofs.Ranks.{under-root, under-rank, under-out, rank-l
 -- the nodes from w down to a node under it
 steps : {w v : ℕ} → Under w v → List ℕ
 steps {w} (here e) = w ∷ []
-steps {w} (deeper b x) = w ∷ steps x
+steps {w} (below b x) = w ∷ steps x
 
 toward-under : (n v : ℕ) {w a b : ℕ} → v ≤ n → Tree n w a b → (x : Under w v)
     → towardFrom n (rank n v) w ≡ steps x
@@ -35,11 +35,11 @@ unfolding steps childOf
 toward-under n v k (out h e) x = absurd (omega (arith, under-out n x h))
 toward-under n v {w} k (node h l a b) (here e) =
     toward-on n (rank n v) w h l ∙ rw (eq-eqb (rank n w) (rank n v) (ap (rank n) e))
-toward-under n v {w} k (node h l a b) (deeper false x) =
+toward-under n v {w} k (node h l a b) (below false x) =
     let r = under-rank a x k in
     toward-on n (rank n v) w h l
     ∙ rw (ne-eqb (rank n w) (rank n v) (omega arith), le-ltb (rank n w) (rank n v) (omega arith)) (ap (λ (us : List ℕ). w ∷ us) (toward-under n v k a x))
-toward-under n v {w} k (node h l a b) (deeper true x) =
+toward-under n v {w} k (node h l a b) (below true x) =
     let r = under-rank b x k in
     toward-on n (rank n v) w h l
     ∙ rw (ne-eqb (rank n w) (rank n v) (omega arith), lt-ltb (rank n w) (rank n v) (omega arith)) (ap (λ (us : List ℕ). w ∷ us) (toward-under n v k b x))
@@ -53,7 +53,7 @@ fromRoot-under : {w v : ℕ} (x : Under w v) (after : List ℕ) → 1 ≤ w
     → fromRootIn (height v) v after ≡ fromRootIn (height (w / 2)) (w / 2) (steps x ++ after)
 unfolding steps
 fromRoot-under {w} (here e) after h = rw (← e) (fromRoot-one w after h)
-fromRoot-under {w} (deeper b x) after h =
+fromRoot-under {w} (below b x) after h =
     fromRoot-under x after (omega (arith, child-bounds b w)) ∙ rw (parent-of b w) (fromRoot-one w (steps x ++ after) h)
 
 pub toward-rank : (n v : ℕ) → 1 ≤ v → v ≤ n → toward n (rank n v) ≡ fromRoot v
@@ -127,7 +127,7 @@ cuts-below xs t o v h k = smaller-first t xs o (rank (length xs) v) (rank-lt (le
 -- ---- the answers, where no node's time is refused
 
 module _ (xs : List ℕ) (time : ℕ → Time) (fine : (v : ℕ) → 1 ≤ v → v ≤ length xs → time v ≡ at (timeOf xs v)) where
-  below-same : (t v : ℕ) → 1 ≤ v → v ≤ length xs → below time t v ≡ ltb (timeOf xs v) t
+  below-same : (t v : ℕ) → 1 ≤ v → v ≤ length xs → isBelow time t v ≡ ltb (timeOf xs v) t
   below-same t v h k = ap (λ (x : Time). ltb (known x) t) (fine v h k)
 
   -- the last node on the way to rank i is the one of that rank
@@ -143,20 +143,20 @@ module _ (xs : List ℕ) (time : ℕ → Time) (fine : (v : ℕ) → 1 ≤ v →
 
   pub search-path : (t : ℕ) → searchNodes (length xs) time t 1 ≡ path xs t
   unfolding path
-  search-path t = walk-same (length xs) never (below time t) (λ v. ltb (timeOf xs v) t) (below-same t) 1 (le-refl 1)
+  search-path t = walk-same (length xs) never (isBelow time t) (λ v. ltb (timeOf xs v) t) (below-same t) 1 (le-refl 1)
 
   module _ (o : T (ordered xs)) (t : ℕ) where
-    pub search-cuts : Cuts (length xs) (below time t) (smaller t xs)
+    pub search-cuts : Cuts (length xs) (isBelow time t) (smaller t xs)
     search-cuts v h k = below-same t v h k ∙ cuts-below xs t o v h k
 
     -- the position is the number of smaller times
     pub search-position : position (length xs) (keptFrom (length xs) time t [] 1) ≡ smaller t xs
-    search-position = search-under (length xs) (below time t) (smaller t xs) search-cuts (tree (length xs)) (omega arith) (smaller-le t xs) [] refl
+    search-position = search-under (length xs) (isBelow time t) (smaller t xs) search-cuts (tree (length xs)) (omega arith) (smaller-le t xs) [] refl
 
     pub search-answer : searchAnswer (length xs) time t ≡ found (smaller t xs) (length (path xs t))
     unfolding targetFrom
     search-answer =
         let nodes = searchNodes (length xs) time t 1 in
         let answer = found (position (length xs) (keptFrom (length xs) time t [] 1)) (0 + length nodes) in
-        met-none (length xs) time (timeOf xs) fine answer never (below time t) 1 (le-refl 1)
+        met-none (length xs) time (timeOf xs) fine answer never (isBelow time t) 1 (le-refl 1)
         ∙ ap₂ found search-position (zero-add (length nodes) ∙ ap length (search-path t))

@@ -14,8 +14,8 @@ use Rattle.tree.specs.declared.shape.Stretch.{Stretch}
 use Rattle.tree.specs.declared.nodes.Levels.{Levels}
 use Rattle.tree.specs.declared.targets.Remembered.{Remembered}
 use Rattle.tree.specs.declared.targets.Walked.{Walked}
-use Rattle.tree.specs.declared.targets.Ending.{Ending}
-use Rattle.tree.specs.declared.targets.Ending.the-variants.{Opened}
+use Rattle.tree.specs.declared.targets.Swept.{Swept}
+use Rattle.tree.specs.declared.targets.Swept.the-variants.{Nodes}
 use Rattle.tree.specs.Shape.{childOf, sideOf, rank}
 use Rattle.tree.specs.Levels.{fetchedAt, Fits}
 use Rattle.tree.specs.Times.{at, nodeTime}
@@ -30,7 +30,7 @@ pub position-last : (ranks : List ℕ) (c n : ℕ) → 1 ≤ c → getD ranks (c
 position-last ranks zero n h = absurd (omega arith)
 position-last ranks (suc c) n h = let e : suc c - 1 ≡ c = omega arith in rw e
 
--- ---- a node more
+-- ---- a node withNode
 
 getD-before : (xs : List ℕ) (i c v : ℕ) → i < c → getD (set xs c v) i 0 ≡ getD xs i 0
 getD-before xs i c v h = getD-set-other xs c i v 0 (λ e. omega (arith, e))
@@ -50,8 +50,8 @@ module _ (levels : Levels) (s : List ℕ) where
 
   module _ (w : Remembered) (v x : ℕ) where
     -- node v with time x remembered too
-    abbrev pub more : Remembered
-    more = record {
+    abbrev pub withNode : Remembered
+    withNode = record {
       count = suc (w .count);
       nodes = set (w .nodes) (w .count) v;
       times = set (w .times) (w .count) x;
@@ -65,10 +65,10 @@ module _ (levels : Levels) (s : List ℕ) where
           nodes = set (w .nodes) (w .count) v;
           times = set (w .times) (w .count) x;
           ranks = set (w .ranks) (w .count) r;
-        } ≡ more
+        } ≡ withNode
     added r e = rw (e, add-one (w .count))
 
-    entry-before : (i : ℕ) → i < w .count → Entry levels s (w .nodes) (w .times) (w .ranks) i → Entry levels s (more .nodes) (more .times) (more .ranks) i
+    entry-before : (i : ℕ) → i < w .count → Entry levels s (w .nodes) (w .times) (w .ranks) i → Entry levels s (withNode .nodes) (withNode .times) (withNode .ranks) i
     entry-before i h e =
         let c = w .count in
         let same = getD-before (w .nodes) i c v h in
@@ -81,7 +81,7 @@ module _ (levels : Levels) (s : List ℕ) where
           deep = rw same (e .deep);
         }
 
-  -- no more nodes are remembered than there are levels
+  -- no withNode nodes are remembered than there are levels
   pub keeps-few : (w : Remembered) → Fits levels s → Keeps levels s w → w .count ≤ 16
   keeps-few w f k = elim (ℕ-discrete (w .count) 0) [
     | yes e ↦ omega arith
@@ -107,8 +107,8 @@ module _ (levels : Levels) (s : List ℕ) where
   }
 
   -- what a target that is not refused leaves
-  pub remembers-opened : (r : Walked) (k : ℕ) (vs : List ℕ) → r .ending ≡ Opened k → Remembers levels s r vs → (keptIn (r .kept) ≡ vs) × Rests levels s (r .kept) k
-  remembers-opened r k vs e h = subst (λ (e : Ending). RemembersBy levels s (r .kept) e vs) e h
+  pub remembers-opened : (r : Walked) (k : ℕ) (vs : List ℕ) → r .ending ≡ Nodes k → Remembers levels s r vs → (keptIn (r .kept) ≡ vs) × Rests levels s (r .kept) k
+  remembers-opened r k vs e h = subst (λ (e : Swept). RemembersBy levels s (r .kept) e vs) e h
 
   pub resumes-root : (w : Remembered) → Keeps levels s w → w .count ≡ 0 → Resumes levels s w 1 (record { start = 0; pins = n }) 0
   resumes-root w k z = record {
@@ -140,12 +140,12 @@ module _ (levels : Levels) (s : List ℕ) where
           few = omega (arith, r .few);
         }
 
-    resumes-left : (x : ℕ) → nodeTime (fetchedAt levels s) v ≡ at x → Resumes levels s (more w v x) (childOf false v) (sideOf false here) (k + 1)
+    resumes-left : (x : ℕ) → nodeTime (fetchedAt levels s) v ≡ at x → Resumes levels s (withNode w v x) (childOf false v) (sideOf false here) (k + 1)
     resumes-left x e =
         let p = stands-place st l in
         let c = w .count in
         let rank-here = stands-rank st in
-        let last : Entry levels s (more w v x .nodes) (more w v x .times) (more w v x .ranks) c = record {
+        let last : Entry levels s (withNode w v x .nodes) (withNode w v x .times) (withNode w v x .ranks) c = record {
           one = rw node-added (st .one);
           among = rw node-added l;
           time = rw (node-added, getD-set-same (w .times) c x 0 (rw (r .keeps .times-size) room)) e;
@@ -160,7 +160,7 @@ module _ (levels : Levels) (s : List ℕ) where
             ranks-size = length-set (w .ranks) c (rank n v) ∙ r .keeps .ranks-size;
             entry = λ i h. elim (decLt i c) [
               | yes y ↦ entry-before w v x i y (r .keeps .entry i y)
-              | no y ↦ let q : c ≡ i = omega arith in subst (Entry levels s (more w v x .nodes) (more w v x .times) (more w v x .ranks)) q last
+              | no y ↦ let q : c ≡ i = omega arith in subst (Entry levels s (withNode w v x .nodes) (withNode w v x .times) (withNode w v x .ranks)) q last
             ];
           };
           ends = rw rank-added (omega (arith, rank-here));
@@ -170,13 +170,13 @@ module _ (levels : Levels) (s : List ℕ) where
 
     -- what is remembered after a step past a node with time x, for target t
     abbrev pub after : ℕ → ℕ → Remembered
-    after x t = cond (ltb x t) w (more w v x)
+    after x t = cond (ltb x t) w (withNode w v x)
 
     pub resumes-child : (x t : ℕ) → nodeTime (fetchedAt levels s) v ≡ at x
         → Resumes levels s (after x t) (childOf (ltb x t) v) (sideOf (ltb x t) here) (k + 1)
     resumes-child x t e = go (ltb x t)
       where
-        go : (b : Bool) → Resumes levels s (cond b w (more w v x)) (childOf b v) (sideOf b here) (k + 1)
+        go : (b : Bool) → Resumes levels s (cond b w (withNode w v x)) (childOf b v) (sideOf b here) (k + 1)
         go true = resumes-right
         go false = resumes-left x e
 
@@ -184,6 +184,6 @@ module _ (levels : Levels) (s : List ℕ) where
     unfolding entries
     kept-child x t = go (ltb x t)
       where
-        go : (b : Bool) → keptIn (cond b w (more w v x)) ≡ cond b (keptIn w) (v ∷ keptIn w)
+        go : (b : Bool) → keptIn (cond b w (withNode w v x)) ≡ cond b (keptIn w) (v ∷ keptIn w)
         go true = refl
         go false = rw (node-added, entries-set (w .nodes) (w .count) (w .count) v (le-refl (w .count)))

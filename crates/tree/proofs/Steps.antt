@@ -2,26 +2,25 @@
 use mathlib.Core.Path.{_≡_, sym, ap, _∙_}
 use mathlib.Core.Bool.{Bool, cond}
 use mathlib.Core.List.{List, _∷_}
-use Prim.Native.Nat.{ℕ, suc, _+_, _-_, _/_, _^_, _≤_, _<_, min}
+use Prim.Native.Nat.{ℕ, suc, _+_, _-_, _/_, _≤_, _<_}
 use native.Mathlib.Nat.{zero-add, le-refl}
 use native.Mathlib.Numerals.{add-one}
 use native.Mathlib.Decide.{decLt}
 use native.Mathlib.Omega.{arith}
 use lib.Dec.{ltb}
-use lib.ListN.{length, take, drop, getD}
+use lib.ListN.{length}
 use borrow.Author.Tests.{lt-ltb, le-ltb, eq-eqb, ne-eqb}
-use Rattle.codes.specs.Fetch.{fetched}
 use Rattle.tree.specs.declared.shape.Stretch.{Stretch}
 use Rattle.tree.specs.declared.nodes.Levels.{Levels}
 use Rattle.tree.specs.Shape.{height, rootPlace, childOf, sideOf, stretch, rank}
 use Rattle.tree.specs.Levels.{fetchedAt, Fits}
 use Rattle.tree.specs.Times.{Time, at, refused, under, known, nodeTime}
-use Rattle.tree.specs.Walks.{Answer, found, stopped, met, towardFrom, toward, lastOf, accessAnswer, below, searchNodes, remember, position, keptFrom, targetFrom}
+use Rattle.tree.specs.Walks.{Answer, found, stopped, met, towardFrom, toward, lastOf, accessAnswer, isBelow, searchNodes, remember, position, keptFrom, targetFrom}
 use Rattle.tree.specs.Standing.{Stands, accessFrom}
-use Rattle.tree.proofs.Heights.{digits, place-in}
+use Rattle.tree.proofs.Heights.{height-is, digits, place-in}
 use Rattle.tree.proofs.Stretches.{stretch-root, stretch-child, side-in, pins-of-node, node-of-pins}
 use Rattle.tree.proofs.NodeTimes.{time-above, time-step}
-use Rattle.tree.proofs.NodeFetches.{fetched-at, Level, level-fits}
+use Rattle.tree.proofs.NodeFetches.{Level, level-fits}
 use Rattle.tree.proofs.Walks.{child-bounds, parent-of, walk-out, walk-on, toward-on, met-fine, met-refused}
 
 -- ---- where a walk stands
@@ -51,8 +50,8 @@ stands-root levels s = record {
   parent = time-above (fetchedAt levels s);
 }
 
-pub stands-first : (levels : Levels) (s : List ℕ) → Stands levels s 1 (height 1 - 1) (record { start = 0; pins = levels .pins }) 0
-stands-first levels s = let w = stands-root levels s in stands-at levels s 1 _ 0 (w .one) (w .under) (w .inside) (w .parent)
+pub root-depth : height 1 - 1 ≡ 0
+root-depth = omega (arith, height-is 0 1 (le-refl 1) (omega arith))
 
 module _ {levels : Levels} {s : List ℕ} {v depth : ℕ} {here : Stretch} {above : ℕ} (w : Stands levels s v depth here above) where
   pub stands-pins : v ≤ levels .pins → 1 ≤ here .pins
@@ -75,11 +74,6 @@ module _ {levels : Levels} {s : List ℕ} {v depth : ℕ} {here : Stretch} {abov
   pub stands-opened : under v (at above) (fetchedAt levels s v) ≡ nodeTime (fetchedAt levels s) v
   stands-opened = sym (time-step (fetchedAt levels s) v (w .one) ∙ rw (w .parent))
 
-  -- by its level's part
-  pub stands-open : under v (at above) (fetched (getD (levels .codes) depth 0) (min (levels .pins + 1 - 2 ^ depth) (2 ^ depth)) (v - 2 ^ depth)
-      (take (getD (levels .ends) (depth + 1) 0 - getD (levels .ends) depth 0) (drop (getD (levels .ends) depth 0) s))) ≡ nodeTime (fetchedAt levels s) v
-  stands-open = ap (under v (at above)) (sym (fetched-at levels s depth v (w .low) (w .high))) ∙ stands-opened
-
   pub stands-child : (right : Bool) (t : ℕ) → v ≤ levels .pins → nodeTime (fetchedAt levels s) v ≡ at t
       → Stands levels s (childOf right v) (depth + 1) (sideOf right here) t
   stands-child right t k e =
@@ -99,22 +93,22 @@ module _ {levels : Levels} {s : List ℕ} {v depth : ℕ} {here : Stretch} {abov
 module _ (n : ℕ) (time : ℕ → Time) (t : ℕ) where
   pub kept-end : (kept : List ℕ) (v : ℕ) → n < v → keptFrom n time t kept v ≡ kept
   unfolding remember
-  kept-end kept v h = rw (walk-out n _ (below time t) v h)
+  kept-end kept v h = rw (walk-out n _ (isBelow time t) v h)
 
   pub target-end : (kept : List ℕ) (k v : ℕ) → n < v → targetFrom n time t kept k v ≡ found (position n kept) k
   unfolding targetFrom remember met
-  target-end kept k v h = rw (walk-out n _ (below time t) v h) (ap (found (position n kept)) (omega arith))
+  target-end kept k v h = rw (walk-out n _ (isBelow time t) v h) (ap (found (position n kept)) (omega arith))
 
   pub target-refused : (kept : List ℕ) (k v r u : ℕ) → 1 ≤ v → v ≤ n → time v ≡ refused r u → targetFrom n time t kept k v ≡ stopped r u
   unfolding targetFrom
-  target-refused kept k v r u h l e = rw (walk-on n _ (below time t) v h l) (met-refused time _ v r u _ e)
+  target-refused kept k v r u h l e = rw (walk-on n _ (isBelow time t) v h l) (met-refused time _ v r u _ e)
 
   -- at a node with time x
   module _ (kept : List ℕ) (v x : ℕ) (h : 1 ≤ v) (l : v ≤ n) (e : time v ≡ at x) where
     pub kept-step : keptFrom n time t kept v ≡ keptFrom n time t (cond (ltb x t) kept (v ∷ kept)) (childOf (ltb x t) v)
     unfolding remember
     kept-step =
-        rw (walk-on n _ (below time t) v h l)
+        rw (walk-on n _ (isBelow time t) v h l)
         (ap (λ (z : Time). keptFrom n time t (cond (ltb (known z) t) kept (v ∷ kept)) (childOf (ltb (known z) t) v)) e)
 
     pub target-step : (k : ℕ) → targetFrom n time t kept k v ≡ targetFrom n time t (cond (ltb x t) kept (v ∷ kept)) (k + 1) (childOf (ltb x t) v)
@@ -125,7 +119,7 @@ module _ (n : ℕ) (time : ℕ → Time) (t : ℕ) where
         let m = length (later (at x)) in
         let j : k + suc m ≡ k + 1 + m = omega arith in
         ap (λ (p : ℕ). met time (found p (k + length (searchNodes n time t v))) (searchNodes n time t v)) (ap (position n) kept-step)
-        ∙ rw (walk-on n _ (below time t) v h l)
+        ∙ rw (walk-on n _ (isBelow time t) v h l)
         (met-fine time _ v x _ e ∙ ap (λ (z : Time). on (later z) (position n (keptFrom n time t (cond (ltb x t) kept (v ∷ kept)) (childOf (ltb x t) v))) (k + suc (length (later z)))) e
         ∙ ap (on (later (at x)) _) j)
 

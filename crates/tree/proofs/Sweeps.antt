@@ -14,7 +14,7 @@ use Rattle.tree.specs.Shape.{height, childOf, rank}
 use Rattle.tree.specs.Lists.{ordered, smaller}
 use Rattle.tree.specs.Stored.{timeOf}
 use Rattle.tree.specs.Times.{Time, at}
-use Rattle.tree.specs.Walks.{walkIn, walk, Answer, found, never, below, remember, position, keptFrom, targetFrom, path}
+use Rattle.tree.specs.Walks.{walkIn, walk, Answer, found, never, isBelow, remember, position, keptFrom, targetFrom, path}
 use Rattle.tree.specs.Sweeps.{Dropped, dropped, Sweep, positionThen, sweepFrom, sweep, onPath, different}
 use Rattle.tree.proofs.Orders.{smaller-mono, ordered-head}
 use Rattle.tree.proofs.Walks.{child-bounds, walk-out, walk-length, met-none}
@@ -259,45 +259,45 @@ module _ (xs : List ℕ) (time : ℕ → Time) (fine : (v : ℕ) → 1 ≤ v →
   kept-at t = keptFrom (length xs) time t [] 1
 
   -- going on as d says, target t remembers what its search does, and opens each node v as often as f says
-  abbrev Turn : Dropped → ℕ → (ℕ → ℕ) → Type 0
-  Turn d t f =
+  abbrev TargetGoes : Dropped → ℕ → (ℕ → ℕ) → Type 0
+  TargetGoes d t f =
       (1 ≤ d .from)
       × (keptFrom (length xs) time t (d .kept) (d .from) ≡ kept-at t)
-      × ((v : ℕ) → visits (length xs) (below time t) (d .from) v ≡ f v)
+      × ((v : ℕ) → visits (length xs) (isBelow time t) (d .from) v ≡ f v)
 
-  on-search : (t v : ℕ) → visits (length xs) (below time t) 1 v ≡ on xs t v
+  on-search : (t v : ℕ) → visits (length xs) (isBelow time t) 1 v ≡ on xs t v
   unfolding on visits path
   on-search t v = ap (occurrences v) (search-path xs time fine t)
 
-  first-turn : (t : ℕ) → Turn (record { from = 1; kept = [] }) t (on xs t)
-  first-turn t = (le-refl 1, refl, on-search t)
+  first-target : (t : ℕ) → TargetGoes (record { from = 1; kept = [] }) t (on xs t)
+  first-target t = (le-refl 1, refl, on-search t)
 
-  later-turn : (s t : ℕ) → s ≤ t → Turn (dropped (below time t) (suc (length xs)) (kept-at s)) t (λ v. on xs t v - on xs s v)
+  later-target : (s t : ℕ) → s ≤ t → TargetGoes (dropped (isBelow time t) (suc (length xs)) (kept-at s)) t (λ v. on xs t v - on xs s v)
   unfolding Continues dropped
-  later-turn s t h =
-      let r = continues (length xs) (below time s) (below time t) (smaller s xs) (smaller t xs) (search-cuts xs time fine o s) (search-cuts xs time fine o t)
+  later-target s t h =
+      let r = continues (length xs) (isBelow time s) (isBelow time t) (smaller s xs) (smaller t xs) (search-cuts xs time fine o s) (search-cuts xs time fine o t)
       (tree (length xs)) (smaller-mono s t xs h) [] (λ g. refl) in
       (r .0, r .1, λ v. r .2 v ∙ ap₂ (λ (x y : ℕ). x - y) (on-search t v) (on-search s v))
 
-  target : (d : Dropped) (k t : ℕ) (f : ℕ → ℕ) → Turn d t f
+  target : (d : Dropped) (k t : ℕ) (f : ℕ → ℕ) → TargetGoes d t f
       → targetFrom (length xs) time t (d .kept) k (d .from) ≡ found (smaller t xs) (k + sumTo (length xs) f)
   unfolding targetFrom
   target d k t f r =
-      met-none (length xs) time (timeOf xs) fine _ never (below time t) (d .from) (r .0)
+      met-none (length xs) time (timeOf xs) fine _ never (isBelow time t) (d .from) (r .0)
       ∙ ap₂ found (ap (position (length xs)) (r .1) ∙ search-position xs time fine o t)
-      (ap (λ (x : ℕ). k + x) (sym (visits-sum (length xs) (below time t) (d .from) (r .0)) ∙ sum-same (length xs) (r .2)))
+      (ap (λ (x : ℕ). k + x) (sym (visits-sum (length xs) (isBelow time t) (d .from) (r .0)) ∙ sum-same (length xs) (r .2)))
 
   -- what a sweep of these targets gives, with k nodes opened
   abbrev done : List ℕ → ℕ → Sweep
   done ts k = record { positions = map (λ t. smaller t xs) ts; answer = found 0 k }
 
-  sweep-turn : (from : ℕ) (kept : List ℕ) (k t : ℕ) (ts : List ℕ) {f g : ℕ → ℕ} → Turn (dropped (below time t) from kept) t f
+  sweep-target : (from : ℕ) (kept : List ℕ) (k t : ℕ) (ts : List ℕ) {f g : ℕ → ℕ} → TargetGoes (dropped (isBelow time t) from kept) t f
       → ((j : ℕ) → sweepFrom (length xs) time (suc (length xs)) (kept-at t) j ts ≡ done ts (j + sumTo (length xs) (more xs t ts)))
       → ((v : ℕ) → f v + more xs t ts v ≡ g v) → sweepFrom (length xs) time from kept k (t ∷ ts) ≡ done (t ∷ ts) (k + sumTo (length xs) g)
   unfolding sweepFrom
-  sweep-turn from kept k t ts {f} r later e =
+  sweep-target from kept k t ts {f} r later e =
       ap₂ (λ (a : Answer) (now : List ℕ). positionThen a (λ j. sweepFrom (length xs) time (suc (length xs)) now j ts))
-      (target (dropped (below time t) from kept) k t f r) (r .1)
+      (target (dropped (isBelow time t) from kept) k t f r) (r .1)
       ∙ ap (λ (rest : Sweep). record { positions = smaller t xs ∷ rest .positions; answer = rest .answer }) (later (k + sumTo (length xs) f))
       ∙ ap (done (t ∷ ts)) (omega (arith, sum-add (length xs) f (more xs t ts), sum-same (length xs) e))
 
@@ -307,7 +307,7 @@ module _ (xs : List ℕ) (time : ℕ → Time) (fine : (v : ℕ) → 1 ≤ v →
   sweep-rest t [] q k = ap (done []) (omega (arith, sum-none (length xs) {f = more xs t []} (λ v. omega (arith, some-nil xs v))))
   sweep-rest t (u ∷ us) q k =
       let r = ordered-head t u us q in
-      sweep-turn (suc (length xs)) (kept-at t) k u us (later-turn t u (r .0)) (sweep-rest u us (r .1))
+      sweep-target (suc (length xs)) (kept-at t) k u us (later-target t u (r .0)) (sweep-rest u us (r .1))
       (λ v. omega (arith, some-cons xs u us v, on-once xs u v, on-once xs t v, some-between xs o t u us v (r .0) (r .1)))
 
   pub sweep-answer : (ts : List ℕ) → T (ordered ts)
@@ -315,7 +315,7 @@ module _ (xs : List ℕ) (time : ℕ → Time) (fine : (v : ℕ) → 1 ≤ v →
   unfolding sweepFrom dropped
   sweep-answer [] q = ap (done []) (omega (arith, some-sum xs [], sum-none (length xs) (some-nil xs)))
   sweep-answer (t ∷ ts) q =
-      sweep-turn 1 [] 0 t ts {g = some xs (t ∷ ts)} (first-turn t) (sweep-rest t ts q) (λ v. omega (arith, some-cons xs t ts v, on-once xs t v))
+      sweep-target 1 [] 0 t ts {g = some xs (t ∷ ts)} (first-target t) (sweep-rest t ts q) (λ v. omega (arith, some-cons xs t ts v, on-once xs t v))
       ∙ ap (done (t ∷ ts)) (omega (arith, some-sum xs (t ∷ ts)))
 
 -- ---- different nodes

@@ -9,14 +9,15 @@ use Rattle.tree.specs.declared.shape.Stretch.{Stretch}
 use Rattle.tree.specs.declared.nodes.Levels.{Levels}
 use Rattle.tree.specs.declared.targets.Remembered.{Remembered}
 use Rattle.tree.specs.declared.targets.Walked.{Walked}
-use Rattle.tree.specs.declared.targets.Ending.{Ending}
-use Rattle.tree.specs.declared.targets.Ending.the-variants as ending
+use Rattle.tree.specs.declared.targets.Swept.{Swept}
+use Rattle.tree.specs.declared.targets.Swept.the-variants as sweeping
 use Rattle.tree.specs.Shape.{height, stretch, rank}
 use Rattle.tree.specs.Levels.{fetchedAt}
 use Rattle.tree.specs.Times.{at, nodeTime, numberOf, nodeOf}
-use Rattle.tree.specs.Walks.{Answer, found, stopped, below, keptFrom, targetFrom}
+use Rattle.tree.specs.Walks.{Answer, found, stopped, isBelow, keptFrom, targetFrom}
 use Rattle.tree.specs.Sweeps.{Dropped, dropped, Sweep, sweepFrom}
 
+-- nothing remembered
 abbrev pub nothing : Remembered
 nothing = record { count = 0; nodes = replicate 16 0; times = replicate 16 0; ranks = replicate 16 0 }
 
@@ -34,6 +35,7 @@ abbrev pub positionIn : List ℕ → ℕ → ℕ → ℕ
 positionIn ranks zero n = n
 positionIn ranks (suc c) n = getD ranks c 0
 
+-- of what is remembered
 abbrev pub positionBy : Remembered → ℕ → ℕ
 positionBy w n = positionIn (w .ranks) (w .count) n
 
@@ -51,6 +53,7 @@ pub record Entry (levels : Levels) (s nodes times ranks : List ℕ) (i : ℕ) : 
   pub ends : stretch (levels .pins) (getD nodes i 0) .start + stretch (levels .pins) (getD nodes i 0) .pins ≡ positionIn ranks i (levels .pins)
   pub deep : i < height (getD nodes i 0)
 
+-- the arrays hold 16 entries each, of which the first `count` are remembered nodes
 pub record Keeps (levels : Levels) (s : List ℕ) (w : Remembered) : Type 0 where
   pub nodes-size : length (w .nodes) ≡ 16
   pub times-size : length (w .times) ≡ 16
@@ -64,11 +67,12 @@ pub record Resumes (levels : Levels) (s : List ℕ) (w : Remembered) (v : ℕ) (
   pub deep : w .count < height v
   pub few : k ≤ here .start + w .count
 
--- what a target answers
-abbrev pub answerBy : ℕ → Ending → Answer
-answerBy p (ending.Opened k) = found p k
-answerBy p (ending.Refused r) = stopped (numberOf r) (nodeOf r)
+-- what a target answers whose position is p
+abbrev pub answerBy : ℕ → Swept → Answer
+answerBy p (sweeping.Nodes k) = found p k
+answerBy p (sweeping.Refused r) = stopped (numberOf r) (nodeOf r)
 
+-- by what it leaves remembered
 abbrev pub walkedAnswer : ℕ → Walked → Answer
 walkedAnswer n r = answerBy (positionBy (r .kept) n) (r .ending)
 
@@ -78,35 +82,37 @@ pub record Rests (levels : Levels) (s : List ℕ) (w : Remembered) (k : ℕ) : T
   pub few : k ≤ positionBy w (levels .pins) + w .count
 
 -- what a target leaves remembered, where it is not refused
-abbrev pub RemembersBy : Levels → List ℕ → Remembered → Ending → List ℕ → Type 0
-RemembersBy levels s w (ending.Opened k) vs = (keptIn w ≡ vs) × Rests levels s w k
-RemembersBy levels s w (ending.Refused r) vs = Unit {0}
+abbrev pub RemembersBy : Levels → List ℕ → Remembered → Swept → List ℕ → Type 0
+RemembersBy levels s w (sweeping.Nodes k) vs = (keptIn w ≡ vs) × Rests levels s w k
+RemembersBy levels s w (sweeping.Refused r) vs = Unit {0}
 
 abbrev pub Remembers : Levels → List ℕ → Walked → List ℕ → Type 0
 Remembers levels s r vs = RemembersBy levels s (r .kept) (r .ending) vs
 
 -- where the next target goes on from, unless it drops a remembered node
-abbrev pub start : ℕ → Bool → ℕ
-start n first = cond first 1 (suc n)
+abbrev pub startAt : ℕ → Bool → ℕ
+startAt n first = cond first 1 (suc n)
 
 -- before the first target nothing is remembered or opened
 abbrev pub Between : Levels → List ℕ → Remembered → Bool → ℕ → Type 0
 Between levels s w first k = Rests levels s w k × (first ≡ true → (w .count ≡ 0) × (k ≡ 0))
 
+-- what the next target drops
 abbrev pub droppedIn : Levels → List ℕ → Remembered → Bool → ℕ → Dropped
-droppedIn levels s w first t = dropped (below (nodeTime (fetchedAt levels s)) t) (start (levels .pins) first) (keptIn w)
+droppedIn levels s w first t = dropped (isBelow (nodeTime (fetchedAt levels s)) t) (startAt (levels .pins) first) (keptIn w)
 
--- what the next target answers, and leaves remembered
+-- what it answers
 abbrev pub targetIn : Levels → List ℕ → Remembered → Bool → ℕ → ℕ → Answer
 targetIn levels s w first t k =
     let d = droppedIn levels s w first t in
     targetFrom (levels .pins) (nodeTime (fetchedAt levels s)) t (d .kept) k (d .from)
 
+-- what it leaves remembered
 abbrev pub keptAfter : Levels → List ℕ → Remembered → Bool → ℕ → List ℕ
 keptAfter levels s w first t =
     let d = droppedIn levels s w first t in
     keptFrom (levels .pins) (nodeTime (fetchedAt levels s)) t (d .kept) (d .from)
 
 -- a sweep that goes on so
-abbrev pub sweepIn : Levels → List ℕ → Remembered → Bool → ℕ → List ℕ → Sweep
-sweepIn levels s w first k ts = sweepFrom (levels .pins) (nodeTime (fetchedAt levels s)) (start (levels .pins) first) (keptIn w) k ts
+abbrev pub sweepOn : Levels → List ℕ → Remembered → Bool → ℕ → List ℕ → Sweep
+sweepOn levels s w first k ts = sweepFrom (levels .pins) (nodeTime (fetchedAt levels s)) (startAt (levels .pins) first) (keptIn w) k ts

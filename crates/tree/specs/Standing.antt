@@ -11,6 +11,10 @@ use Rattle.tree.specs.Times.{Time, at, known, nodeTime}
 use Rattle.tree.specs.Walks.{Answer, found, met, towardFrom, lastOf}
 use Rattle.tree.specs.Listing.{accesses}
 
+-- levels by their parts
+abbrev pub levelsOf : ℕ → List ℕ → List ℕ → Levels
+levelsOf n codes ends = record { pins = n; codes = codes; ends = ends }
+
 -- at node v, `depth` levels down, with the stretch under it and its parent's time
 pub record Stands (levels : Levels) (s : List ℕ) (v depth : ℕ) (here : Stretch) (above : ℕ) : Type 0 where
   pub one : 1 ≤ v

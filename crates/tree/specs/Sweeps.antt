@@ -4,11 +4,11 @@ use mathlib.Core.List.{List, [], _∷_}
 use Prim.Native.Nat.{ℕ, zero, suc, _+_}
 use lib.Dec.{eqb}
 use lib.ListN.{length}
-use Rattle.tree.specs.declared.sweeping.Swept.{Swept}
-use Rattle.tree.specs.declared.sweeping.Swept.the-variants as sweeping
+use Rattle.tree.specs.declared.targets.Swept.{Swept}
+use Rattle.tree.specs.declared.targets.Swept.the-variants as sweeping
 use Rattle.tree.specs.Shape.{childOf}
 use Rattle.tree.specs.Times.{Time, numberOf, nodeOf}
-use Rattle.tree.specs.Walks.{Answer, found, stopped, below, keptFrom, targetFrom, path}
+use Rattle.tree.specs.Walks.{Answer, found, stopped, isBelow, keptFrom, targetFrom, path}
 
 -- the nodes still remembered, and the node to go on from
 pub record Dropped : Type 0 where
@@ -36,7 +36,7 @@ positionThen (stopped r c) later = record { positions = []; answer = stopped r c
 unfoldable pub sweepFrom : ℕ → (ℕ → Time) → ℕ → List ℕ → ℕ → List ℕ → Sweep
 sweepFrom n time from kept k [] = record { positions = []; answer = found 0 k }
 sweepFrom n time from kept k (t ∷ ts) =
-    let d = dropped (below time t) from kept in
+    let d = dropped (isBelow time t) from kept in
     positionThen (targetFrom n time t (d .kept) k (d .from)) (λ j. sweepFrom n time (suc n) (keptFrom n time t (d .kept) (d .from)) j ts)
 
 -- the first target as search does

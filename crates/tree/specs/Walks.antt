@@ -1,4 +1,4 @@
--- Walks from the root down: the nodes that they open, and what access and search answer.
+-- Walks down the tree: the nodes that they open, and what access and search answer.
 use mathlib.Core.Bool.{Bool, false, cond}
 use mathlib.Core.List.{List, [], _∷_}
 use Prim.Native.Nat.{ℕ, zero, suc, _+_, _-_, _/_}
@@ -67,12 +67,12 @@ abbrev pub never : ℕ → Bool
 never v = false
 
 -- the node's time is below t
-abbrev pub below : (ℕ → Time) → ℕ → ℕ → Bool
-below time t v = ltb (known (time v)) t
+abbrev pub isBelow : (ℕ → Time) → ℕ → ℕ → Bool
+isBelow time t v = ltb (known (time v)) t
 
 -- from node v, left where the node's time is at or above t, else right, until no child
 abbrev pub searchNodes : ℕ → (ℕ → Time) → ℕ → ℕ → List ℕ
-searchNodes n time t v = walk n never (below time t) v
+searchNodes n time t v = walk n never (isBelow time t) v
 
 -- the nodes left by their left side, the deepest first, then those remembered before
 unfoldable pub remember : (ℕ → Bool) → List ℕ → List ℕ → List ℕ
@@ -86,7 +86,7 @@ position n (v ∷ vs) = rank n v
 
 -- what target t leaves remembered that goes on from node v, with these nodes remembered before
 abbrev pub keptFrom : ℕ → (ℕ → Time) → ℕ → List ℕ → ℕ → List ℕ
-keptFrom n time t kept v = remember (below time t) (searchNodes n time t v) kept
+keptFrom n time t kept v = remember (isBelow time t) (searchNodes n time t v) kept
 
 -- what it answers, with k nodes opened before
 unfoldable pub targetFrom : ℕ → (ℕ → Time) → ℕ → List ℕ → ℕ → ℕ → Answer

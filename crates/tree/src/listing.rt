@@ -2,7 +2,7 @@
 use super::nodes::Levels;
 use super::nodes::Opened;
 use super::nodes::Refusal;
-use super::nodes::open_in;
+use super::nodes::open_at;
 use super::shape::root_place;
 ghost use mathlib.Core.Path.{_≡_};
 ghost use Prim.Native.Nat.{_≤_};
@@ -41,7 +41,7 @@ fn list_under(
     if pins == 0 {
         return Listed::All;
     }
-    let opened = open_in(s, levels, depth, v, above);
+    let opened = open_at(s, &levels.ends, &levels.codes, levels.pins, depth, v, above);
     let mut time: u32 = 0;
     match opened {
         Opened::Time(t) => {

@@ -7,6 +7,7 @@ ghost use lib.ListN.{length};
 ghost use Rattle.codes.specs.Fetch.{value, fetched};
 ghost use Rattle.tree.specs.Levels.{Fits, fetchedAt};
 ghost use Rattle.tree.specs.Times.{at, under, timeOpened};
+ghost use Rattle.tree.specs.Standing.{levelsOf};
 
 // The pin count, each level's code byte and each level's end. Entry 0 of the ends is where the first level starts; so the part
 // of level L, counted from 1, is the strip's bytes from entry L - 1 up to entry L.
@@ -76,14 +77,23 @@ pub(crate) fn open_node(
     }
 }
 
-// Opens node v of a strip with these levels, likewise. The walks to one node do this themselves, since handing on all levels takes time.
-pub(crate) fn open_in(s: &[u8], levels: Levels, depth: usize, v: usize, above: u32) -> Opened
-    requires { ⌜ Fits levels (now s) ⌝ }
-    requires { ⌜ (2 ^ depth ≤ v) × (v < 2 * 2 ^ depth) × (v ≤ levels .pins) ⌝ }
-    ensures { λ r. ⌜ timeOpened r ≡ under v (at above) (fetchedAt levels (now (s .entry)) v) ⌝ }
+// Opens node v of n by the codes and ends of all levels, which the walks lend.
+pub(crate) fn open_at<'a>(
+    s: &[u8],
+    ends: &'a [usize],
+    codes: &'a [u8],
+    n: usize,
+    depth: usize,
+    v: usize,
+    above: u32,
+) -> Opened
+    requires { ⌜ Fits (levelsOf n (now codes) (now ends)) (now s) ⌝ }
+    requires { ⌜ (length (now codes) ≡ 16) × (length (now ends) ≡ 17) ⌝ }
+    requires { ⌜ (2 ^ depth ≤ v) × (v < 2 * 2 ^ depth) × (v ≤ n) ⌝ }
+    ensures { λ r. ⌜ timeOpened r ≡ under v (at above) (fetchedAt (levelsOf n (now (codes .entry)) (now (ends .entry))) (now (s .entry)) v) ⌝ }
 {
-    let start = levels.ends[depth];
-    let end = levels.ends[depth + 1];
-    let code = levels.codes[depth];
-    open_node(&s[start..end], code, levels.pins, depth, v, above)
+    let start = ends[depth];
+    let end = ends[depth + 1];
+    let code = codes[depth];
+    open_node(&s[start..end], code, n, depth, v, above)
 }

@@ -1,10 +1,9 @@
 // The sweep: targets one after the other, each from where the one before leaves off.
 use super::nodes::Levels;
-use super::nodes::Refusal;
 use super::shape::Stretch;
 use super::shape::child_of;
-use super::targets::Ending;
 use super::targets::Remembered;
+use super::targets::Swept;
 use super::targets::Walked;
 use super::targets::go_down;
 use super::targets::left_by;
@@ -18,12 +17,6 @@ ghost use Rattle.tree.specs.Times.{nodeTime};
 ghost use Rattle.tree.specs.Buffers.{replaced};
 ghost use Rattle.tree.specs.Sweeps.{sweep, swept};
 ghost use Rattle.tree.specs.Remembering.{walkedAnswer, Between, targetIn, keptAfter, Remembers};
-
-// The nodes opened in all.
-pub enum Swept {
-    Nodes(usize),
-    Refused(Refusal),
-}
 
 // The next target. The first goes as search does; a later one drops remembered nodes while their time is below it, and if any is
 // dropped, goes on from the right child of the last.
@@ -49,7 +42,7 @@ fn next_target(
     if left == kept.count {
         return Walked {
             kept: kept,
-            ending: Ending::Opened(nodes),
+            ending: Swept::Nodes(nodes),
         };
     }
     let mut kept = kept;
@@ -78,10 +71,10 @@ pub fn sweep(answers: &mut [u32], s: &[u8], levels: Levels, targets: &[u32]) -> 
         let walked = next_target(s, levels, kept, i == 0, targets[i], nodes);
         let ending = walked.ending;
         match ending {
-            Ending::Opened(k) => {
+            Swept::Nodes(k) => {
                 nodes = k;
             }
-            Ending::Refused(r) => {
+            Swept::Refused(r) => {
                 return Swept::Refused(r);
             }
         }

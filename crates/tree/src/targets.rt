@@ -2,7 +2,7 @@
 use super::nodes::Levels;
 use super::nodes::Opened;
 use super::nodes::Refusal;
-use super::nodes::open_node;
+use super::nodes::open_at;
 use super::shape::Stretch;
 use super::shape::child_of;
 use super::shape::height;
@@ -25,16 +25,16 @@ pub(crate) struct Remembered {
     pub(crate) ranks: [usize; 16],
 }
 
-// The nodes opened in all, where none is refused.
-pub(crate) enum Ending {
-    Opened(usize),
+// The nodes opened in all, or why a walk stops.
+pub enum Swept {
+    Nodes(usize),
     Refused(Refusal),
 }
 
 // What a target leaves remembered, which means something where it is not refused.
 pub(crate) struct Walked {
     pub(crate) kept: Remembered,
-    pub(crate) ending: Ending,
+    pub(crate) ending: Swept,
 }
 
 pub(crate) fn nothing_kept() -> Remembered
@@ -99,11 +99,8 @@ pub(crate) fn go_down(
     let mut nodes = nodes;
     let mut depth = height(v) - 1;
     while v <= levels.pins {
-        let start = levels.ends[depth];
-        let end = levels.ends[depth + 1];
-        let code = levels.codes[depth];
         nodes += 1;
-        let opened = open_node(&s[start..end], code, levels.pins, depth, v, time);
+        let opened = open_at(s, &levels.ends, &levels.codes, levels.pins, depth, v, time);
         match opened {
             Opened::Time(t) => {
                 time = t;
@@ -111,7 +108,7 @@ pub(crate) fn go_down(
             Opened::Refused(r) => {
                 return Walked {
                     kept: kept,
-                    ending: Ending::Refused(r),
+                    ending: Swept::Refused(r),
                 };
             }
         }
@@ -129,6 +126,6 @@ pub(crate) fn go_down(
     }
     Walked {
         kept: kept,
-        ending: Ending::Opened(nodes),
+        ending: Swept::Nodes(nodes),
     }
 }

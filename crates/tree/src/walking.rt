@@ -2,12 +2,12 @@
 use super::nodes::Levels;
 use super::nodes::Opened;
 use super::nodes::Refusal;
-use super::nodes::open_node;
+use super::nodes::open_at;
 use super::shape::Stretch;
 use super::shape::child_of;
 use super::shape::root_place;
 use super::shape::side_of;
-use super::targets::Ending;
+use super::targets::Swept;
 use super::targets::go_down;
 use super::targets::nothing_kept;
 use super::targets::position_of;
@@ -44,11 +44,8 @@ pub fn access(s: &[u8], levels: Levels, i: usize) -> Accessed
     let mut time: u32 = 0;
     let mut nodes: usize = 0;
     loop {
-        let start = levels.ends[depth];
-        let end = levels.ends[depth + 1];
-        let code = levels.codes[depth];
         nodes += 1;
-        let opened = open_node(&s[start..end], code, levels.pins, depth, v, time);
+        let opened = open_at(s, &levels.ends, &levels.codes, levels.pins, depth, v, time);
         match opened {
             Opened::Time(t) => {
                 time = t;
@@ -80,7 +77,7 @@ pub fn search(s: &[u8], levels: Levels, target: u32) -> Searched
     let walked = go_down(s, levels, nothing_kept(), target, 1, here, 0, 0);
     let ending = walked.ending;
     match ending {
-        Ending::Opened(nodes) => Searched::Position(position_of(walked.kept, levels.pins), nodes),
-        Ending::Refused(r) => Searched::Refused(r),
+        Swept::Nodes(nodes) => Searched::Position(position_of(walked.kept, levels.pins), nodes),
+        Swept::Refused(r) => Searched::Refused(r),
     }
 }

@@ -18,8 +18,8 @@ use Rattle.tree.proofs.Listings.{listed-refused, stands-left, stands-ri
 use borrow.Author.Needs.{needs}
 use borrow.Fn.Kinds.{In, Out}
 use borrow.Fn.PlainCycle.{Measures, is, falls, and}
-use Rattle.tree.proofs.nodes.open_in.Kinds as open-in-kinds
-use Rattle.tree.proofs.nodes.open_in.Reads as open-in-reads
+use Rattle.tree.proofs.nodes.open_at.Kinds as open-at-kinds
+use Rattle.tree.proofs.nodes.open_at.Reads as open-at-reads
 use Rattle.tree.proofs.shape.root_place.Kinds as root-place-kinds
 use Rattle.tree.proofs.shape.root_place.Reads as root-place-reads
 use Rattle.tree.proofs.listing.list_under.Reads as reads
@@ -38,8 +38,8 @@ abbrev asked : ℕ → In 2 kinds.ps
 asked t = and 2 kinds.ps (falls 2 kinds.ps _<_ μ t) reads.Pre
 
 -- what is asked of the callees, and learnt from them
-abbrev calls : ℕ → In 1 open-in-kinds.ps × Out 1 open-in-kinds.ps open-in-kinds.r × In 0 root-place-kinds.ps × Out 0 root-place-kinds.ps root-place-kinds.r × In 2 kinds.ps × Out 2 kinds.ps kinds.r
-calls t = (open-in-reads.Asked, open-in-reads.Learnt, root-place-reads.Asked, root-place-reads.Learnt, asked t, reads.Post)
+abbrev calls : ℕ → In 2 open-at-kinds.ps × Out 2 open-at-kinds.ps open-at-kinds.r × In 0 root-place-kinds.ps × Out 0 root-place-kinds.ps root-place-kinds.r × In 2 kinds.ps × Out 2 kinds.ps kinds.r
+calls t = (open-at-reads.Asked, open-at-reads.Learnt, root-place-reads.Asked, root-place-reads.Learnt, asked t, reads.Post)
 
 -- the level of a node that has pins lies in the bytes
 level : {levels : Levels} {s : List ℕ} {v depth above : ℕ} {here : Stretch} → Fits levels s → Stands levels s v depth here above → 1 ≤ here .pins → Level levels s depth
@@ -49,10 +49,10 @@ returns : (t : ℕ) → lts.Need-returns (calls t) (given t) reads.Post
 unfolding stopFrom timesFrom
 returns t c = rw (c .if1 .taken) (refl, sym (replaced-none (c .before .before .before .args .times .now) (c .before .before .before .args .start)))
 
-open-in-requires : (t : ℕ) → lts.Need-open-in-requires (calls t) (given t) reads.Post
-open-in-requires t c κs =
-    let w = c .before .before .before .pre .1 .1 .0 in
-    (c .before .before .before .pre .1 .0 .0, (w .low, w .high, stands-node w (omega arith)))
+open-at-requires : (t : ℕ) → lts.Need-open-at-requires (calls t) (given t) reads.Post
+open-at-requires t c κs =
+    let w = c .before .before .before .before .before .before .before .before .pre .1 .1 .0 in
+    (c .before .before .before .before .before .before .before .before .pre .1 .0 .0, ((search needs, search needs), (w .low, w .high, stands-node w (omega arith))))
 
 enum-known-opened : (t : ℕ) → lts.Need-enum-known-opened (calls t) (given t) reads.Post
 enum-known-opened t c = search needs
@@ -62,29 +62,29 @@ enum-known-opened-2 t c = search needs
 
 returns-2 : (t : ℕ) → lts.Need-returns-2 (calls t) (given t) reads.Post
 returns-2 t c =
-    let w = c .before .before .before .before .before .before .before .pre .1 .1 .0 in
-    let e = sym (stands-opened w) ∙ sym (c .before .before .before .open-in .ensures) ∙ ap timeOpened (c .before .opened2 .given .1) in
-    let z = listed-refused w (c .before .before .before .before .before .before .before .pre .1 .1 .1) (omega arith) _ _ e in
-    (sym (z .0), sym (rw (z .1) (replaced-none (c .before .before .before .before .before .before .before .args .times .now) (c .before .before .before .before .before .before .before .args .start))))
+    let w = c .before .before .before .before .before .before .before .before .before .before .before .before .pre .1 .1 .0 in
+    let e = sym (stands-opened w) ∙ sym (c .before .before .before .open-at .ensures) ∙ ap timeOpened (c .before .opened2 .given .1) in
+    let z = listed-refused w (c .before .before .before .before .before .before .before .before .before .before .before .before .pre .1 .1 .1) (omega arith) _ _ e in
+    (sym (z .0), sym (rw (z .1) (replaced-none (c .before .before .before .before .before .before .before .before .before .before .before .before .args .times .now) (c .before .before .before .before .before .before .before .before .before .before .before .before .args .start))))
 
 root-place-requires : (t : ℕ) → lts.Need-root-place-requires (calls t) (given t) reads.Post
 root-place-requires t c κs = tt
 
 sub-list-under : (t : ℕ) → lts.Need-sub-list-under (calls t) (given t) reads.Post
-sub-list-under t c = omega (arith, place-in (c .before .before .before .before .before .before .before .before .before .args .pins) (omega arith))
+sub-list-under t c = omega (arith, place-in (c .before .before .before .before .before .before .before .before .before .before .before .before .before .before .args .pins) (omega arith))
 
 mul-list-under : (t : ℕ) → lts.Need-mul-list-under (calls t) (given t) reads.Post
-mul-list-under t c = omega (arith, level (c .before .before .before .before .before .before .before .before .before .pre .1 .0 .0) (c .before .before .before .before .before .before .before .before .before .pre .1 .1 .0) (omega arith), stands-node (c .before .before .before .before .before .before .before .before .before .pre .1 .1 .0) (omega arith))
+mul-list-under t c = omega (arith, level (c .before .before .before .before .before .before .before .before .before .before .before .before .before .before .pre .1 .0 .0) (c .before .before .before .before .before .before .before .before .before .before .before .before .before .before .pre .1 .1 .0) (omega arith), stands-node (c .before .before .before .before .before .before .before .before .before .before .before .before .before .before .pre .1 .1 .0) (omega arith))
 
 add-list-under : (t : ℕ) → lts.Need-add-list-under (calls t) (given t) reads.Post
-add-list-under t c = omega (arith, level (c .before .before .before .before .before .before .before .before .before .pre .1 .0 .0) (c .before .before .before .before .before .before .before .before .before .pre .1 .1 .0) (omega arith))
+add-list-under t c = omega (arith, level (c .before .before .before .before .before .before .before .before .before .before .before .before .before .before .pre .1 .0 .0) (c .before .before .before .before .before .before .before .before .before .before .before .before .before .before .pre .1 .1 .0) (omega arith))
 
 list-under-requires : (t : ℕ) → lts.Need-list-under-requires (calls t) (given t) reads.Post
 list-under-requires t c κs =
-    let p = c .before .before .before .before .before .before .before .before .before .pre .1 in
-    let e : nodeTime (fetchedAt (c .before .before .before .before .before .before .before .before .before .args .levels) (c .before .before .before .before .before .before .before .before .before .args .s .now)) (c .before .before .before .before .before .before .before .before .before .args .v) ≡ at (c .before .before .before .opened .given .0 .0) =
-    sym (stands-opened (p .1 .0)) ∙ sym (c .before .before .before .before .before .open-in .ensures) ∙ ap timeOpened (c .before .before .before .opened .given .1) in
-    (omega (arith, c .before .before .before .before .before .before .before .before .before .pre .0, place-in (c .before .before .before .before .before .before .before .before .before .args .pins) (omega arith)), (p .0, stands-left (p .1 .0) (p .1 .1) (omega arith) _ e _ (c .before .root-place .ensures)))
+    let p = c .before .before .before .before .before .before .before .before .before .before .before .before .before .before .pre .1 in
+    let e : nodeTime (fetchedAt (c .before .before .before .before .before .before .before .before .before .before .before .before .before .before .args .t3) (c .before .before .before .before .before .before .before .before .before .before .before .before .before .before .args .s .now)) (c .before .before .before .before .before .before .before .before .before .before .before .before .before .before .args .v) ≡ at (c .before .before .before .opened .given .0 .0) =
+    sym (stands-opened (p .1 .0)) ∙ sym (c .before .before .before .before .before .open-at .ensures) ∙ ap timeOpened (c .before .before .before .opened .given .1) in
+    (omega (arith, c .before .before .before .before .before .before .before .before .before .before .before .before .before .before .pre .0, place-in (c .before .before .before .before .before .before .before .before .before .before .before .before .before .before .args .pins) (omega arith)), (p .0, stands-left (p .1 .0) (p .1 .1) (omega arith) _ e _ (c .before .root-place .ensures)))
 
 enum-told : (t : ℕ) → lts.Need-enum-told (calls t) (given t) reads.Post
 enum-told t c = search needs
@@ -97,57 +97,57 @@ same-length t c = c .before .before .before .before .before .list-under .kept .0
 
 returns-3 : (t : ℕ) → lts.Need-returns-3 (calls t) (given t) reads.Post
 returns-3 t c =
-    let p = c .before .before .before .before .before .before .before .before .before .before .before .before .before .before .before .pre .1 in
-    let e : nodeTime (fetchedAt (c .before .before .before .before .before .before .before .before .before .before .before .before .before .before .before .args .levels) (c .before .before .before .before .before .before .before .before .before .before .before .before .before .before .before .args .s .now)) (c .before .before .before .before .before .before .before .before .before .before .before .before .before .before .before .args .v) ≡ at (c .before .before .before .before .before .before .before .before .before .opened .given .0 .0) =
-    sym (stands-opened (p .1 .0)) ∙ sym (c .before .before .before .before .before .before .before .before .before .before .before .open-in .ensures) ∙ ap timeOpened (c .before .before .before .before .before .before .before .before .before .opened .given .1) in
-    listed-left (p .1 .0) (p .1 .1) (omega arith) _ e _ (c .before .before .before .before .before .before .before .root-place .ensures) (c .before .before .before .before .before .before .before .before .before .before .before .before .before .before .before .args .times .now) (c .before .before .before .before .before .list-under .last .0) (c .before .before .before .before .before .list-under .ensures .1)
+    let p = c .before .before .before .before .before .before .before .before .before .before .before .before .before .before .before .before .before .before .before .before .pre .1 in
+    let e : nodeTime (fetchedAt (c .before .before .before .before .before .before .before .before .before .before .before .before .before .before .before .before .before .before .before .before .args .t3) (c .before .before .before .before .before .before .before .before .before .before .before .before .before .before .before .before .before .before .before .before .args .s .now)) (c .before .before .before .before .before .before .before .before .before .before .before .before .before .before .before .before .before .before .before .before .args .v) ≡ at (c .before .before .before .before .before .before .before .before .before .opened .given .0 .0) =
+    sym (stands-opened (p .1 .0)) ∙ sym (c .before .before .before .before .before .before .before .before .before .before .before .open-at .ensures) ∙ ap timeOpened (c .before .before .before .before .before .before .before .before .before .opened .given .1) in
+    listed-left (p .1 .0) (p .1 .1) (omega arith) _ e _ (c .before .before .before .before .before .before .before .root-place .ensures) (c .before .before .before .before .before .before .before .before .before .before .before .before .before .before .before .before .before .before .before .before .args .times .now) (c .before .before .before .before .before .list-under .last .0) (c .before .before .before .before .before .list-under .ensures .1)
     _ _ _ _ refl (sym (ap listed (c .before .left .given .1)) ∙ c .before .before .before .before .before .list-under .ensures .0)
 
 add-at : (t : ℕ) → lts.Need-add-at (calls t) (given t) reads.Post
-add-at t c = omega (arith, place-in (c .before .before .before .before .before .before .before .before .before .before .before .before .before .before .args .pins) (omega arith), c .before .before .before .before .before .before .before .before .before .before .before .before .before .before .pre .1 .1 .0 .inside, level (c .before .before .before .before .before .before .before .before .before .before .before .before .before .before .pre .1 .0 .0) (c .before .before .before .before .before .before .before .before .before .before .before .before .before .before .pre .1 .1 .0) (omega arith))
+add-at t c = omega (arith, place-in (c .before .before .before .before .before .before .before .before .before .before .before .before .before .before .before .before .before .before .before .args .pins) (omega arith), c .before .before .before .before .before .before .before .before .before .before .before .before .before .before .before .before .before .before .before .pre .1 .1 .0 .inside, level (c .before .before .before .before .before .before .before .before .before .before .before .before .before .before .before .before .before .before .before .pre .1 .0 .0) (c .before .before .before .before .before .before .before .before .before .before .before .before .before .before .before .before .before .before .before .pre .1 .1 .0) (omega arith))
 
 sub-at : (t : ℕ) → lts.Need-sub-at (calls t) (given t) reads.Post
-sub-at t c = omega (arith, place-in (c .before .before .before .before .before .before .before .before .before .before .before .before .before .before .args .pins) (omega arith))
+sub-at t c = omega (arith, place-in (c .before .before .before .before .before .before .before .before .before .before .before .before .before .before .before .before .before .before .before .args .pins) (omega arith))
 
 mul-times : (t : ℕ) → lts.Need-mul-times (calls t) (given t) reads.Post
-mul-times t c = omega (arith, place-in (c .before .before .before .before .before .before .before .before .before .before .before .before .before .before .args .pins) (omega arith), c .before .before .before .before .before .before .before .before .before .before .before .before .before .before .pre .1 .1 .0 .inside, level (c .before .before .before .before .before .before .before .before .before .before .before .before .before .before .pre .1 .0 .0) (c .before .before .before .before .before .before .before .before .before .before .before .before .before .before .pre .1 .1 .0) (omega arith))
+mul-times t c = omega (arith, place-in (c .before .before .before .before .before .before .before .before .before .before .before .before .before .before .before .before .before .before .before .args .pins) (omega arith), c .before .before .before .before .before .before .before .before .before .before .before .before .before .before .before .before .before .before .before .pre .1 .1 .0 .inside, level (c .before .before .before .before .before .before .before .before .before .before .before .before .before .before .before .before .before .before .before .pre .1 .0 .0) (c .before .before .before .before .before .before .before .before .before .before .before .before .before .before .before .before .before .before .before .pre .1 .1 .0) (omega arith))
 
 slice-write-times : (t : ℕ) → lts.Need-slice-write-times (calls t) (given t) reads.Post
-slice-write-times t c = omega (arith, place-in (c .before .before .before .before .before .before .before .before .before .before .before .before .before .before .args .pins) (omega arith), c .before .before .before .before .before .before .before .before .before .before .before .before .before .before .pre .1 .1 .0 .inside, c .before .before .before .before .before .before .before .before .before .before .before .before .before .before .pre .1 .0 .1, c .before .before .before .before .list-under .kept .0)
+slice-write-times t c = omega (arith, place-in (c .before .before .before .before .before .before .before .before .before .before .before .before .before .before .before .before .before .before .before .args .pins) (omega arith), c .before .before .before .before .before .before .before .before .before .before .before .before .before .before .before .before .before .before .before .pre .1 .1 .0 .inside, c .before .before .before .before .before .before .before .before .before .before .before .before .before .before .before .before .before .before .before .pre .1 .0 .1, c .before .before .before .before .list-under .kept .0)
 
 add-list-under-2 : (t : ℕ) → lts.Need-add-list-under-2 (calls t) (given t) reads.Post
-add-list-under-2 t c = omega (arith, place-in (c .before .before .before .before .before .before .before .before .before .before .before .before .before .before .before .args .pins) (omega arith), c .before .before .before .before .before .before .before .before .before .before .before .before .before .before .before .pre .1 .1 .0 .inside, level (c .before .before .before .before .before .before .before .before .before .before .before .before .before .before .before .pre .1 .0 .0) (c .before .before .before .before .before .before .before .before .before .before .before .before .before .before .before .pre .1 .1 .0) (omega arith))
+add-list-under-2 t c = omega (arith, place-in (c .before .before .before .before .before .before .before .before .before .before .before .before .before .before .before .before .before .before .before .before .args .pins) (omega arith), c .before .before .before .before .before .before .before .before .before .before .before .before .before .before .before .before .before .before .before .before .pre .1 .1 .0 .inside, level (c .before .before .before .before .before .before .before .before .before .before .before .before .before .before .before .before .before .before .before .before .pre .1 .0 .0) (c .before .before .before .before .before .before .before .before .before .before .before .before .before .before .before .before .before .before .before .before .pre .1 .1 .0) (omega arith))
 
 sub-list-under-2 : (t : ℕ) → lts.Need-sub-list-under-2 (calls t) (given t) reads.Post
-sub-list-under-2 t c = omega (arith, place-in (c .before .before .before .before .before .before .before .before .before .before .before .before .before .before .before .args .pins) (omega arith))
+sub-list-under-2 t c = omega (arith, place-in (c .before .before .before .before .before .before .before .before .before .before .before .before .before .before .before .before .before .before .before .before .args .pins) (omega arith))
 
 mul-list-under-2 : (t : ℕ) → lts.Need-mul-list-under-2 (calls t) (given t) reads.Post
-mul-list-under-2 t c = omega (arith, level (c .before .before .before .before .before .before .before .before .before .before .before .before .before .before .before .pre .1 .0 .0) (c .before .before .before .before .before .before .before .before .before .before .before .before .before .before .before .pre .1 .1 .0) (omega arith), stands-node (c .before .before .before .before .before .before .before .before .before .before .before .before .before .before .before .pre .1 .1 .0) (omega arith))
+mul-list-under-2 t c = omega (arith, level (c .before .before .before .before .before .before .before .before .before .before .before .before .before .before .before .before .before .before .before .before .pre .1 .0 .0) (c .before .before .before .before .before .before .before .before .before .before .before .before .before .before .before .before .before .before .before .before .pre .1 .1 .0) (omega arith), stands-node (c .before .before .before .before .before .before .before .before .before .before .before .before .before .before .before .before .before .before .before .before .pre .1 .1 .0) (omega arith))
 
 add-list-under-3 : (t : ℕ) → lts.Need-add-list-under-3 (calls t) (given t) reads.Post
-add-list-under-3 t c = omega (arith, level (c .before .before .before .before .before .before .before .before .before .before .before .before .before .before .before .pre .1 .0 .0) (c .before .before .before .before .before .before .before .before .before .before .before .before .before .before .before .pre .1 .1 .0) (omega arith), stands-node (c .before .before .before .before .before .before .before .before .before .before .before .before .before .before .before .pre .1 .1 .0) (omega arith))
+add-list-under-3 t c = omega (arith, level (c .before .before .before .before .before .before .before .before .before .before .before .before .before .before .before .before .before .before .before .before .pre .1 .0 .0) (c .before .before .before .before .before .before .before .before .before .before .before .before .before .before .before .before .before .before .before .before .pre .1 .1 .0) (omega arith), stands-node (c .before .before .before .before .before .before .before .before .before .before .before .before .before .before .before .before .before .before .before .before .pre .1 .1 .0) (omega arith))
 
 add-list-under-4 : (t : ℕ) → lts.Need-add-list-under-4 (calls t) (given t) reads.Post
-add-list-under-4 t c = omega (arith, level (c .before .before .before .before .before .before .before .before .before .before .before .before .before .before .before .pre .1 .0 .0) (c .before .before .before .before .before .before .before .before .before .before .before .before .before .before .before .pre .1 .1 .0) (omega arith))
+add-list-under-4 t c = omega (arith, level (c .before .before .before .before .before .before .before .before .before .before .before .before .before .before .before .before .before .before .before .before .pre .1 .0 .0) (c .before .before .before .before .before .before .before .before .before .before .before .before .before .before .before .before .before .before .before .before .pre .1 .1 .0) (omega arith))
 
 list-under-requires-2 : (t : ℕ) → lts.Need-list-under-requires-2 (calls t) (given t) reads.Post
 list-under-requires-2 t c κs =
-    let p = c .before .before .before .before .before .before .before .before .before .before .before .before .before .before .before .pre .1 in
-    let e : nodeTime (fetchedAt (c .before .before .before .before .before .before .before .before .before .before .before .before .before .before .before .args .levels) (c .before .before .before .before .before .before .before .before .before .before .before .before .before .before .before .args .s .now)) (c .before .before .before .before .before .before .before .before .before .before .before .before .before .before .before .args .v) ≡ at (c .before .before .before .before .before .before .before .before .before .opened .given .0 .0) =
-    sym (stands-opened (p .1 .0)) ∙ sym (c .before .before .before .before .before .before .before .before .before .before .before .open-in .ensures) ∙ ap timeOpened (c .before .before .before .before .before .before .before .before .before .opened .given .1) in
-    let room : c .before .before .before .before .before .before .before .before .before .before .before .before .before .before .before .args .levels .pins ≤ length (set (c .before .before .before .before .before .list-under .last .0) (c .before .before .before .before .before .before .before .before .before .before .before .before .before .before .before .args .start + c .before .before .before .before .before .before .before .root-place .result - 1) (c .before .before .before .before .before .before .before .before .before .opened .given .0 .0)) =
-    omega (arith, length-set (c .before .before .before .before .before .list-under .last .0) (c .before .before .before .before .before .before .before .before .before .before .before .before .before .before .before .args .start + c .before .before .before .before .before .before .before .root-place .result - 1) (c .before .before .before .before .before .before .before .before .before .opened .given .0 .0), c .before .before .before .before .before .list-under .kept .0, p .0 .1) in
-    (omega (arith, c .before .before .before .before .before .before .before .before .before .before .before .before .before .before .before .pre .0, place-in (c .before .before .before .before .before .before .before .before .before .before .before .before .before .before .before .args .pins) (omega arith)), ((p .0 .0, room), stands-right (p .1 .0) (p .1 .1) (omega arith) _ e _ (c .before .before .before .before .before .before .before .root-place .ensures)))
+    let p = c .before .before .before .before .before .before .before .before .before .before .before .before .before .before .before .before .before .before .before .before .pre .1 in
+    let e : nodeTime (fetchedAt (c .before .before .before .before .before .before .before .before .before .before .before .before .before .before .before .before .before .before .before .before .args .t3) (c .before .before .before .before .before .before .before .before .before .before .before .before .before .before .before .before .before .before .before .before .args .s .now)) (c .before .before .before .before .before .before .before .before .before .before .before .before .before .before .before .before .before .before .before .before .args .v) ≡ at (c .before .before .before .before .before .before .before .before .before .opened .given .0 .0) =
+    sym (stands-opened (p .1 .0)) ∙ sym (c .before .before .before .before .before .before .before .before .before .before .before .open-at .ensures) ∙ ap timeOpened (c .before .before .before .before .before .before .before .before .before .opened .given .1) in
+    let room : c .before .before .before .before .before .before .before .before .before .before .before .before .before .before .before .before .before .before .before .before .args .t3 .pins ≤ length (set (c .before .before .before .before .before .list-under .last .0) (c .before .before .before .before .before .before .before .before .before .before .before .before .before .before .before .before .before .before .before .before .args .start + c .before .before .before .before .before .before .before .root-place .result - 1) (c .before .before .before .before .before .before .before .before .before .opened .given .0 .0)) =
+    omega (arith, length-set (c .before .before .before .before .before .list-under .last .0) (c .before .before .before .before .before .before .before .before .before .before .before .before .before .before .before .before .before .before .before .before .args .start + c .before .before .before .before .before .before .before .root-place .result - 1) (c .before .before .before .before .before .before .before .before .before .opened .given .0 .0), c .before .before .before .before .before .list-under .kept .0, p .0 .1) in
+    (omega (arith, c .before .before .before .before .before .before .before .before .before .before .before .before .before .before .before .before .before .before .before .before .pre .0, place-in (c .before .before .before .before .before .before .before .before .before .before .before .before .before .before .before .before .before .before .before .before .args .pins) (omega arith)), ((p .0 .0, room), stands-right (p .1 .0) (p .1 .1) (omega arith) _ e _ (c .before .before .before .before .before .before .before .root-place .ensures)))
 
 same-length-2 : (t : ℕ) → lts.Need-same-length-2 (calls t) (given t) reads.Post
-same-length-2 t c = c .before .before .list-under2 .kept .0 ∙ length-set (c .before .before .before .before .before .before .before .before .list-under .last .0) (c .before .before .before .before .before .before .before .before .before .before .before .before .before .before .before .before .before .before .args .start + c .before .before .before .before .before .before .before .before .before .before .root-place .result - 1) (c .before .before .before .before .before .before .before .before .before .before .before .before .opened .given .0 .0) ∙ c .before .before .before .before .before .before .before .before .list-under .kept .0
+same-length-2 t c = c .before .before .list-under2 .kept .0 ∙ length-set (c .before .before .before .before .before .before .before .before .list-under .last .0) (c .before .before .before .before .before .before .before .before .before .before .before .before .before .before .before .before .before .before .before .before .before .before .before .args .start + c .before .before .before .before .before .before .before .before .before .before .root-place .result - 1) (c .before .before .before .before .before .before .before .before .before .before .before .before .opened .given .0 .0) ∙ c .before .before .before .before .before .before .before .before .list-under .kept .0
 
 returns-4 : (t : ℕ) → lts.Need-returns-4 (calls t) (given t) reads.Post
 returns-4 t c =
-    let p = c .before .before .before .before .before .before .before .before .before .before .before .before .before .before .before .before .before .before .pre .1 in
-    let e : nodeTime (fetchedAt (c .before .before .before .before .before .before .before .before .before .before .before .before .before .before .before .before .before .before .args .levels) (c .before .before .before .before .before .before .before .before .before .before .before .before .before .before .before .before .before .before .args .s .now)) (c .before .before .before .before .before .before .before .before .before .before .before .before .before .before .before .before .before .before .args .v) ≡ at (c .before .before .before .before .before .before .before .before .before .before .before .before .opened .given .0 .0) =
-    sym (stands-opened (p .1 .0)) ∙ sym (c .before .before .before .before .before .before .before .before .before .before .before .before .before .before .open-in .ensures) ∙ ap timeOpened (c .before .before .before .before .before .before .before .before .before .before .before .before .opened .given .1) in
-    listed-right (p .1 .0) (p .1 .1) (omega arith) _ e _ (c .before .before .before .before .before .before .before .before .before .before .root-place .ensures) (c .before .before .before .before .before .before .before .before .before .before .before .before .before .before .before .before .before .before .args .times .now) (c .before .before .before .before .before .before .before .before .list-under .last .0) (c .before .before .before .before .before .before .before .before .list-under .ensures .1)
+    let p = c .before .before .before .before .before .before .before .before .before .before .before .before .before .before .before .before .before .before .before .before .before .before .before .pre .1 in
+    let e : nodeTime (fetchedAt (c .before .before .before .before .before .before .before .before .before .before .before .before .before .before .before .before .before .before .before .before .before .before .before .args .t3) (c .before .before .before .before .before .before .before .before .before .before .before .before .before .before .before .before .before .before .before .before .before .before .before .args .s .now)) (c .before .before .before .before .before .before .before .before .before .before .before .before .before .before .before .before .before .before .before .before .before .before .before .args .v) ≡ at (c .before .before .before .before .before .before .before .before .before .before .before .before .opened .given .0 .0) =
+    sym (stands-opened (p .1 .0)) ∙ sym (c .before .before .before .before .before .before .before .before .before .before .before .before .before .before .open-at .ensures) ∙ ap timeOpened (c .before .before .before .before .before .before .before .before .before .before .before .before .opened .given .1) in
+    listed-right (p .1 .0) (p .1 .1) (omega arith) _ e _ (c .before .before .before .before .before .before .before .before .before .before .root-place .ensures) (c .before .before .before .before .before .before .before .before .before .before .before .before .before .before .before .before .before .before .before .before .before .before .before .args .times .now) (c .before .before .before .before .before .before .before .before .list-under .last .0) (c .before .before .before .before .before .before .before .before .list-under .ensures .1)
     (sym (ap listed (c .before .before .before .before .enum-told .given .1)) ∙ c .before .before .before .before .before .before .before .before .list-under .ensures .0) (omega (arith, p .1 .0 .inside, p .0 .1))
     (listed (c .before .before .list-under2 .result)) (c .before .before .list-under2 .last .0) (c .before .before .list-under2 .ensures .0) (c .before .before .list-under2 .ensures .1)
 
@@ -156,7 +156,7 @@ pub +list-under-spec : {M : Type 1} → statement M
     (given t)
     reads.Post
     (returns t)
-    (open-in-requires t)
+    (open-at-requires t)
     (enum-known-opened t)
     (enum-known-opened-2 t)
     (returns-2 t)

@@ -6,16 +6,15 @@ use mathlib.Core.List.{List}
 use native.Mathlib.Nat.{le-refl}
 use Rattle.tree.specs.declared.nodes.Levels.{Levels}
 use Rattle.tree.specs.declared.targets.Walked.{Walked}
-use Rattle.tree.specs.declared.targets.Ending.the-variants.{Opened}
+use Rattle.tree.specs.declared.targets.Swept.the-variants.{Nodes}
 use Rattle.tree.specs.Levels.{fetchedAt}
 use Rattle.tree.specs.Times.{nodeTime}
 use Rattle.tree.specs.Walks.{found, keptFrom, targetFrom}
 use Rattle.tree.specs.Sweeps.{Dropped}
-use Rattle.tree.specs.Remembering.{entries, keptIn, start, Remembers, walkedAnswer, droppedIn}
-use Rattle.tree.proofs.NodeFetches.{pins-bound}
-use Rattle.tree.proofs.Steps.{stands-first, kept-end, target-end}
+use Rattle.tree.specs.Remembering.{entries, keptIn, startAt, Remembers, walkedAnswer, droppedIn}
+use Rattle.tree.proofs.Steps.{root-depth, stands-root, kept-end, target-end}
 use Rattle.tree.proofs.Remembering.{keeps-few, keeps-position, resumes-root}
-use Rattle.tree.proofs.Dropping.{left-none, dropped-none, dropped-some, fewer, onward-bounds, stands-onward, resumes-onward}
+use Rattle.tree.proofs.Dropping.{left-none, dropped-none, dropped-some, onward-bounds, stands-onward, resumes-onward}
 use Rattle.tree.proofs.sweeping.next_target.Statement.{statement}
 use Rattle.tree.proofs.sweeping.next_target.Tie as tie
 
@@ -29,7 +28,7 @@ go-down-requires : tie.Need-go-down-requires
 go-down-requires c κs =
     let a = c .before .before .args in
     let z = c .before .before .pre .1 .1 (c .if1 .taken) in
-    (c .before .before .pre .0, (stands-first (a .levels) (a .s .now), rw (z .1) (resumes-root (a .levels) (a .s .now) (a .kept) (c .before .before .pre .1 .0 .keeps) (z .0))))
+    (c .before .before .pre .0, (rw root-depth (stands-root (a .levels) (a .s .now)), rw (z .1) (resumes-root (a .levels) (a .s .now) (a .kept) (c .before .before .pre .1 .0 .keeps) (z .0))))
 
 returns : tie.Need-returns
 returns c =
@@ -52,63 +51,57 @@ returns-2 c =
     let k = c .before .before .before .before .before .pre .1 .0 .keeps in
     let d : droppedIn (a .levels) (a .s .now) w (a .first) (a .target) ≡ record { from = suc n; kept = keptIn w } =
     rw (c .before .before .before .if1 .left) (dropped-none (a .levels) (a .s .now) w k (a .target) (suc n) (sym (c .before .before .left-by .ensures) ∙ c .if2 .taken)) in
-    subst (Ends (a .levels) (a .s .now) (a .target) (a .nodes) (record { kept = w; ending = Opened (a .nodes) })) (sym d)
+    subst (Ends (a .levels) (a .s .now) (a .target) (a .nodes) (record { kept = w; ending = Nodes (a .nodes) })) (sym d)
     (ap (λ (p : ℕ). found p (a .nodes)) (sym (keeps-position (a .levels) (a .s .now) w k)) ∙ sym (target-end n read (a .target) (keptIn w) (a .nodes) (suc n) (le-refl (suc n))), (sym (kept-end n read (a .target) (keptIn w) (suc n) (le-refl (suc n))), c .before .before .before .before .before .pre .1 .0))
 
 mul-start : tie.Need-mul-start
-mul-start c = omega (arith, (let a = c .before .before .before .before .before .args in fewer (a .levels) (a .s .now) (a .kept) (a .target) (c .before .before .left-by .result) (c .before .before .before .before .before .pre .0) (c .before .before .before .before .before .pre .1 .0 .keeps) (c .before .before .left-by .ensures) (c .if2 .left)))
+mul-start c = omega (arith, onward-bounds (c .before .before .before .before .before .args .levels) (c .before .before .before .before .before .args .s .now) (c .before .before .before .before .before .args .kept) (c .before .before .before .before .before .args .nodes) (c .before .before .before .before .before .pre .1 .0) (c .before .before .before .before .before .pre .0) (c .before .before .before .before .before .args .target) (c .before .before .left-by .result) (c .before .before .left-by .ensures) (c .if2 .left))
 
 element-copy-out-start : tie.Need-element-copy-out-start
-element-copy-out-start c = omega (arith, (let a = c .before .before .before .before .before .args in fewer (a .levels) (a .s .now) (a .kept) (a .target) (c .before .before .left-by .result) (c .before .before .before .before .before .pre .0) (c .before .before .before .before .before .pre .1 .0 .keeps) (c .before .before .left-by .ensures) (c .if2 .left)))
+element-copy-out-start c = omega (arith, onward-bounds (c .before .before .before .before .before .args .levels) (c .before .before .before .before .before .args .s .now) (c .before .before .before .before .before .args .kept) (c .before .before .before .before .before .args .nodes) (c .before .before .before .before .before .pre .1 .0) (c .before .before .before .before .before .pre .0) (c .before .before .before .before .before .args .target) (c .before .before .left-by .result) (c .before .before .left-by .ensures) (c .if2 .left))
 
 add-start : tie.Need-add-start
-add-start c =
-    let a = c .before .before .before .before .before .before .args in
-    let f = (let a = c .before .before .before .before .before .before .args in fewer (a .levels) (a .s .now) (a .kept) (a .target) (c .before .before .before .left-by .result) (c .before .before .before .before .before .before .pre .0) (c .before .before .before .before .before .before .pre .1 .0 .keeps) (c .before .before .before .left-by .ensures) (c .before .if2 .left)) in
-    omega (arith, onward-bounds (a .levels) (a .s .now) (a .kept) (a .nodes) (c .before .before .before .before .before .before .pre .1 .0) (c .before .before .before .left-by .result) (f .0), pins-bound (a .levels) (a .s .now) (c .before .before .before .before .before .before .pre .0))
+add-start c = omega (arith, onward-bounds (c .before .before .before .before .before .before .args .levels) (c .before .before .before .before .before .before .args .s .now) (c .before .before .before .before .before .before .args .kept) (c .before .before .before .before .before .before .args .nodes) (c .before .before .before .before .before .before .pre .1 .0) (c .before .before .before .before .before .before .pre .0) (c .before .before .before .before .before .before .args .target) (c .before .before .before .left-by .result) (c .before .before .before .left-by .ensures) (c .before .if2 .left))
 
 position-of-requires : tie.Need-position-of-requires
-position-of-requires c κs = omega (arith, (let a = c .before .before .before .before .before .before .args in fewer (a .levels) (a .s .now) (a .kept) (a .target) (c .before .before .before .left-by .result) (c .before .before .before .before .before .before .pre .0) (c .before .before .before .before .before .before .pre .1 .0 .keeps) (c .before .before .before .left-by .ensures) (c .before .if2 .left)))
+position-of-requires c κs = omega (arith, onward-bounds (c .before .before .before .before .before .before .args .levels) (c .before .before .before .before .before .before .args .s .now) (c .before .before .before .before .before .before .args .kept) (c .before .before .before .before .before .before .args .nodes) (c .before .before .before .before .before .before .pre .1 .0) (c .before .before .before .before .before .before .pre .0) (c .before .before .before .before .before .before .args .target) (c .before .before .before .left-by .result) (c .before .before .before .left-by .ensures) (c .before .if2 .left))
 
 sub-child-of : tie.Need-sub-child-of
-sub-child-of c =
-    let a = c .before .before .before .before .before .before .before .args in
-    let f = (let a = c .before .before .before .before .before .before .before .args in fewer (a .levels) (a .s .now) (a .kept) (a .target) (c .before .before .before .before .left-by .result) (c .before .before .before .before .before .before .before .pre .0) (c .before .before .before .before .before .before .before .pre .1 .0 .keeps) (c .before .before .before .before .left-by .ensures) (c .before .before .if2 .left)) in
-    omega (arith, onward-bounds (a .levels) (a .s .now) (a .kept) (a .nodes) (c .before .before .before .before .before .before .before .pre .1 .0) (c .before .before .before .before .left-by .result) (f .0), pins-bound (a .levels) (a .s .now) (c .before .before .before .before .before .before .before .pre .0), c .position-of .ensures)
+sub-child-of c = omega (arith, onward-bounds (c .before .before .before .before .before .before .before .args .levels) (c .before .before .before .before .before .before .before .args .s .now) (c .before .before .before .before .before .before .before .args .kept) (c .before .before .before .before .before .before .before .args .nodes) (c .before .before .before .before .before .before .before .pre .1 .0) (c .before .before .before .before .before .before .before .pre .0) (c .before .before .before .before .before .before .before .args .target) (c .before .before .before .before .left-by .result) (c .before .before .before .before .left-by .ensures) (c .before .before .if2 .left), c .position-of .ensures)
 
 mul-child-of : tie.Need-mul-child-of
-mul-child-of c = omega (arith, (let a = c .before .before .before .before .before .before .before .args in fewer (a .levels) (a .s .now) (a .kept) (a .target) (c .before .before .before .before .left-by .result) (c .before .before .before .before .before .before .before .pre .0) (c .before .before .before .before .before .before .before .pre .1 .0 .keeps) (c .before .before .before .before .left-by .ensures) (c .before .before .if2 .left)))
+mul-child-of c = omega (arith, onward-bounds (c .before .before .before .before .before .before .before .args .levels) (c .before .before .before .before .before .before .before .args .s .now) (c .before .before .before .before .before .before .before .args .kept) (c .before .before .before .before .before .before .before .args .nodes) (c .before .before .before .before .before .before .before .pre .1 .0) (c .before .before .before .before .before .before .before .pre .0) (c .before .before .before .before .before .before .before .args .target) (c .before .before .before .before .left-by .result) (c .before .before .before .before .left-by .ensures) (c .before .before .if2 .left))
 
 element-copy-out-child-of : tie.Need-element-copy-out-child-of
-element-copy-out-child-of c = omega (arith, (let a = c .before .before .before .before .before .before .before .args in fewer (a .levels) (a .s .now) (a .kept) (a .target) (c .before .before .before .before .left-by .result) (c .before .before .before .before .before .before .before .pre .0) (c .before .before .before .before .before .before .before .pre .1 .0 .keeps) (c .before .before .before .before .left-by .ensures) (c .before .before .if2 .left)))
+element-copy-out-child-of c = omega (arith, onward-bounds (c .before .before .before .before .before .before .before .args .levels) (c .before .before .before .before .before .before .before .args .s .now) (c .before .before .before .before .before .before .before .args .kept) (c .before .before .before .before .before .before .before .args .nodes) (c .before .before .before .before .before .before .before .pre .1 .0) (c .before .before .before .before .before .before .before .pre .0) (c .before .before .before .before .before .before .before .args .target) (c .before .before .before .before .left-by .result) (c .before .before .before .before .left-by .ensures) (c .before .before .if2 .left))
 
 child-of-requires : tie.Need-child-of-requires
-child-of-requires c κs =
-    let a = c .before .before .before .before .before .before .before .before .args in
-    let f = (let a = c .before .before .before .before .before .before .before .before .args in fewer (a .levels) (a .s .now) (a .kept) (a .target) (c .before .before .before .before .before .left-by .result) (c .before .before .before .before .before .before .before .before .pre .0) (c .before .before .before .before .before .before .before .before .pre .1 .0 .keeps) (c .before .before .before .before .before .left-by .ensures) (c .before .before .before .if2 .left)) in
-    omega (arith, onward-bounds (a .levels) (a .s .now) (a .kept) (a .nodes) (c .before .before .before .before .before .before .before .before .pre .1 .0) (c .before .before .before .before .before .left-by .result) (f .0), pins-bound (a .levels) (a .s .now) (c .before .before .before .before .before .before .before .before .pre .0))
+child-of-requires c κs = omega (arith, onward-bounds (c .before .before .before .before .before .before .before .before .args .levels) (c .before .before .before .before .before .before .before .before .args .s .now) (c .before .before .before .before .before .before .before .before .args .kept) (c .before .before .before .before .before .before .before .before .args .nodes) (c .before .before .before .before .before .before .before .before .pre .1 .0) (c .before .before .before .before .before .before .before .before .pre .0) (c .before .before .before .before .before .before .before .before .args .target) (c .before .before .before .before .before .left-by .result) (c .before .before .before .before .before .left-by .ensures) (c .before .before .before .if2 .left))
 
 mul-above : tie.Need-mul-above
-mul-above c = omega (arith, (let a = c .before .before .before .before .before .before .before .before .before .args in fewer (a .levels) (a .s .now) (a .kept) (a .target) (c .before .before .before .before .before .before .left-by .result) (c .before .before .before .before .before .before .before .before .before .pre .0) (c .before .before .before .before .before .before .before .before .before .pre .1 .0 .keeps) (c .before .before .before .before .before .before .left-by .ensures) (c .before .before .before .before .if2 .left)))
+mul-above c = omega (arith, onward-bounds (c .before .before .before .before .before .before .before .before .before .args .levels) (c .before .before .before .before .before .before .before .before .before .args .s .now) (c .before .before .before .before .before .before .before .before .before .args .kept) (c .before .before .before .before .before .before .before .before .before .args .nodes) (c .before .before .before .before .before .before .before .before .before .pre .1 .0) (c .before .before .before .before .before .before .before .before .before .pre .0) (c .before .before .before .before .before .before .before .before .before .args .target) (c .before .before .before .before .before .before .left-by .result) (c .before .before .before .before .before .before .left-by .ensures) (c .before .before .before .before .if2 .left))
 
 element-copy-out-above : tie.Need-element-copy-out-above
-element-copy-out-above c = omega (arith, (let a = c .before .before .before .before .before .before .before .before .before .args in fewer (a .levels) (a .s .now) (a .kept) (a .target) (c .before .before .before .before .before .before .left-by .result) (c .before .before .before .before .before .before .before .before .before .pre .0) (c .before .before .before .before .before .before .before .before .before .pre .1 .0 .keeps) (c .before .before .before .before .before .before .left-by .ensures) (c .before .before .before .before .if2 .left)))
+element-copy-out-above c = omega (arith, onward-bounds (c .before .before .before .before .before .before .before .before .before .args .levels) (c .before .before .before .before .before .before .before .before .before .args .s .now) (c .before .before .before .before .before .before .before .before .before .args .kept) (c .before .before .before .before .before .before .before .before .before .args .nodes) (c .before .before .before .before .before .before .before .before .before .pre .1 .0) (c .before .before .before .before .before .before .before .before .before .pre .0) (c .before .before .before .before .before .before .before .before .before .args .target) (c .before .before .before .before .before .before .left-by .result) (c .before .before .before .before .before .before .left-by .ensures) (c .before .before .before .before .if2 .left))
 
 go-down-requires-2 : tie.Need-go-down-requires-2
 go-down-requires-2 c κs =
     let a = c .before .before .before .before .before .before .before .before .before .before .args in
     let m = c .before .before .before .before .before .before .before .left-by .result in
-    let f = (let a = c .before .before .before .before .before .before .before .before .before .before .args in fewer (a .levels) (a .s .now) (a .kept) (a .target) (c .before .before .before .before .before .before .before .left-by .result) (c .before .before .before .before .before .before .before .before .before .before .pre .0) (c .before .before .before .before .before .before .before .before .before .before .pre .1 .0 .keeps) (c .before .before .before .before .before .before .before .left-by .ensures) (c .before .before .before .before .before .if2 .left)) in
     let r = c .before .before .before .before .before .before .before .before .before .before .pre .1 .0 in
-    rw (c .before .child-of .ensures, c .before .before .before .position-of .ensures) (c .before .before .before .before .before .before .before .before .before .before .pre .0, (stands-onward (a .levels) (a .s .now) (a .kept) (a .nodes) r m (f .0), resumes-onward (a .levels) (a .s .now) (a .kept) (a .nodes) r m (f .0)))
+    let h = (onward-bounds (c .before .before .before .before .before .before .before .before .before .before .args .levels) (c .before .before .before .before .before .before .before .before .before .before .args .s .now) (c .before .before .before .before .before .before .before .before .before .before .args .kept) (c .before .before .before .before .before .before .before .before .before .before .args .nodes) (c .before .before .before .before .before .before .before .before .before .before .pre .1 .0) (c .before .before .before .before .before .before .before .before .before .before .pre .0) (c .before .before .before .before .before .before .before .before .before .before .args .target) (c .before .before .before .before .before .before .before .left-by .result) (c .before .before .before .before .before .before .before .left-by .ensures) (c .before .before .before .before .before .if2 .left)) .less in
+    rw (c .before .child-of .ensures, c .before .before .before .position-of .ensures) (
+      c .before .before .before .before .before .before .before .before .before .before .pre .0,
+      (stands-onward (a .levels) (a .s .now) (a .kept) (a .nodes) r m h, resumes-onward (a .levels) (a .s .now) (a .kept) (a .nodes) r m h),
+    )
 
 returns-3 : tie.Need-returns-3
 returns-3 c =
     let a = c .before .before .before .before .before .before .before .before .before .before .before .args in
     let w = a .kept in
     let m = c .before .before .before .before .before .before .before .before .left-by .result in
-    let f = fewer (a .levels) (a .s .now) w (a .target) m (c .before .before .before .before .before .before .before .before .before .before .before .pre .0) (c .before .before .before .before .before .before .before .before .before .before .before .pre .1 .0 .keeps) (c .before .before .before .before .before .before .before .before .left-by .ensures) (c .before .before .before .before .before .before .if2 .left) in
-    let d = dropped-some (a .levels) (a .s .now) w (c .before .before .before .before .before .before .before .before .before .before .before .pre .1 .0 .keeps) (a .target) (start (a .levels .pins) (a .first)) m (c .before .before .before .before .before .before .before .before .left-by .ensures) (f .0) in
+    let h = (onward-bounds (c .before .before .before .before .before .before .before .before .before .before .before .args .levels) (c .before .before .before .before .before .before .before .before .before .before .before .args .s .now) (c .before .before .before .before .before .before .before .before .before .before .before .args .kept) (c .before .before .before .before .before .before .before .before .before .before .before .args .nodes) (c .before .before .before .before .before .before .before .before .before .before .before .pre .1 .0) (c .before .before .before .before .before .before .before .before .before .before .before .pre .0) (c .before .before .before .before .before .before .before .before .before .before .before .args .target) (c .before .before .before .before .before .before .before .before .left-by .result) (c .before .before .before .before .before .before .before .before .left-by .ensures) (c .before .before .before .before .before .before .if2 .left)) .less in
+    let d = dropped-some (a .levels) (a .s .now) w (c .before .before .before .before .before .before .before .before .before .before .before .pre .1 .0 .keeps) (a .target) (startAt (a .levels .pins) (a .first)) m (c .before .before .before .before .before .before .before .before .left-by .ensures) h in
     subst (Ends (a .levels) (a .s .now) (a .target) (a .nodes) (c .go-down2 .result)) (sym d)
     (subst (λ (v : ℕ). Ends (a .levels) (a .s .now) (a .target) (a .nodes) (c .go-down2 .result) (record { from = v; kept = entries (w .nodes) m })) (c .before .before .child-of .ensures) (c .go-down2 .ensures))
 

@@ -15,7 +15,7 @@ use Rattle.tree.specs.Times.{nodeTime}
 use Rattle.tree.specs.Buffers.{replaced}
 use Rattle.tree.specs.Walks.{found}
 use Rattle.tree.specs.Sweeps.{Sweep, sweepFrom, sweep}
-use Rattle.tree.specs.Remembering.{entries, answerBy, Between, keptAfter, sweepIn}
+use Rattle.tree.specs.Remembering.{entries, answerBy, Between, keptAfter, sweepOn}
 use Rattle.tree.proofs.NodeFetches.{pins-bound}
 use Rattle.tree.proofs.Buffers.{replaced-none, replaced-next}
 use Rattle.tree.proofs.Remembering.{keeps-none, keeps-few, remembers-opened}
@@ -26,9 +26,9 @@ use Rattle.tree.proofs.sweeping.sweep.Tie as tie
 abbrev Inv-loop : tie.InvT-loop
 Inv-loop answers₀ s levels targets kept₀ nodes₀ i₀ answers kept nodes i =
     (i ≤ length targets) × (length answers ≡ length answers₀) × Between levels s kept (eqb i 0) nodes
-    × (sweep (levels .pins) (nodeTime (fetchedAt levels s)) targets .answer ≡ sweepIn levels s kept (eqb i 0) nodes (drop i targets) .answer)
+    × (sweep (levels .pins) (nodeTime (fetchedAt levels s)) targets .answer ≡ sweepOn levels s kept (eqb i 0) nodes (drop i targets) .answer)
     × (replaced answers₀ 0 (sweep (levels .pins) (nodeTime (fetchedAt levels s)) targets .positions)
-    ≡ replaced answers i (sweepIn levels s kept (eqb i 0) nodes (drop i targets) .positions))
+    ≡ replaced answers i (sweepOn levels s kept (eqb i 0) nodes (drop i targets) .positions))
 
 abbrev μ-loop : tie.MeasureT-loop
 μ-loop answers₀ s levels targets kept₀ nodes₀ i₀ answers kept nodes i = length targets - i
@@ -68,7 +68,7 @@ returns c =
     let t = getD (a .targets .now) (l .i) 0 in
     let first = eqb (l .i) 0 in
     let e = sweep-next (a .levels) (a .s .now) (l .kept) first (l .nodes) t (drop (suc (l .i)) (a .targets .now)) _ (sym (c .before .before .before .next-target .ensures .0) ∙ ap (answerBy _) (c .before .ending2 .given .1)) in
-    let d = ap (sweepIn (a .levels) (a .s .now) (l .kept) first (l .nodes)) (drop-cons (a .targets .now) (l .i) 0 (omega arith)) ∙ e in
+    let d = ap (sweepOn (a .levels) (a .s .now) (l .kept) first (l .nodes)) (drop-cons (a .targets .now) (l .i) 0 (omega arith)) ∙ e in
     (sym (l .inv .3 ∙ ap (λ (x : Sweep). x .answer) d), sym (l .inv .4 ∙ ap (λ (x : Sweep). replaced (l .answers) (l .i) (x .positions)) d ∙ replaced-none (l .answers) (l .i)))
 
 position-of-requires : tie.Need-position-of-requires Inv-loop μ-loop
@@ -116,10 +116,10 @@ loop-again c =
     let kept = keptAfter (a .levels) (a .s .now) (l .kept) first t in
     let left = remembers-opened (a .levels) (a .s .now) r k kept (c .before .before .before .ending .given .1) (c .before .before .before .before .before .next-target .ensures .1) in
     let later : eqb (i + 1) 0 ≡ false = ne-eqb (i + 1) 0 (λ e. omega arith) in
-    let e = ap (sweepIn (a .levels) (a .s .now) (l .kept) first (l .nodes)) (drop-cons (a .targets .now) i 0 (omega arith))
+    let e = ap (sweepOn (a .levels) (a .s .now) (l .kept) first (l .nodes)) (drop-cons (a .targets .now) i 0 (omega arith))
     ∙ sweep-next (a .levels) (a .s .now) (l .kept) first (l .nodes) t ts (found (c .position-of .result) k)
     (sym (c .before .before .before .before .before .next-target .ensures .0) ∙ ap (answerBy _) (c .before .before .before .ending .given .1) ∙ ap (λ (p : ℕ). found p k) (sym (c .position-of .ensures))) in
-    let on : sweepFrom n read (suc n) kept k ts ≡ sweepIn (a .levels) (a .s .now) (r .kept) (eqb (i + 1) 0) k (drop (i + 1) (a .targets .now)) =
+    let on : sweepFrom n read (suc n) kept k ts ≡ sweepOn (a .levels) (a .s .now) (r .kept) (eqb (i + 1) 0) k (drop (i + 1) (a .targets .now)) =
     rw (later, add-one i) (ap (λ (us : List ℕ). sweepFrom n read (suc n) us k ts) (sym (left .0))) in (
       omega arith,
       length-set (l .answers) i (c .position-of .result) ∙ l .inv .1,

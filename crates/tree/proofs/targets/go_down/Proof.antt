@@ -8,7 +8,6 @@ use Prim.Native.Nat.{ℕ, _+_}
 use borrow.Author.Tests.{lt-ltb, le-ltb}
 use borrow.Author.Needs.{needs}
 use lib.Dec.{ltb}
-use lib.ListN.{length-take}
 use Rattle.tree.specs.Levels.{fetchedAt}
 use Rattle.tree.specs.Times.{at, nodeTime, timeOpened}
 use Rattle.tree.specs.Shape.{childOf}
@@ -17,8 +16,8 @@ use Rattle.tree.specs.Standing.{Stands}
 use Rattle.tree.specs.Remembering.{keptIn, Resumes, Rests}
 use Rattle.tree.proofs.Heights.{height-above}
 use Rattle.tree.proofs.Stretches.{side-in}
-use Rattle.tree.proofs.Steps.{stands-pins, stands-place, stands-rank, stands-level, stands-open, stands-child, kept-end, target-end, target-refused, kept-step, target-step}
-use Rattle.tree.proofs.Remembering.{keeps-few, keeps-position, room, more, added, resumes-child, kept-child}
+use Rattle.tree.proofs.Steps.{stands-pins, stands-place, stands-rank, stands-level, stands-opened, stands-child, kept-end, target-end, target-refused, kept-step, target-step}
+use Rattle.tree.proofs.Remembering.{keeps-few, keeps-position, room, withNode, added, resumes-child, kept-child}
 use Rattle.tree.proofs.targets.go_down.Statement.{statement}
 use Rattle.tree.proofs.targets.go_down.Tie as tie
 
@@ -41,44 +40,16 @@ sub-depth c = omega (arith, c .height .ensures, height-above (c .before .before 
 loop-holds : tie.Need-loop-holds Inv-loop μ-loop
 loop-holds c = rw (c .height .ensures) (c .before .before .pre .1 .0, c .before .before .pre .1 .1, refl, refl)
 
-mul-start : tie.Need-mul-start Inv-loop μ-loop
-mul-start c = omega (arith, stands-level (c .before .loop .inv .0) (c .before .before .before .before .pre .0) (omega arith))
-
-element-copy-out-start : tie.Need-element-copy-out-start Inv-loop μ-loop
-element-copy-out-start c = omega (arith, stands-level (c .before .loop .inv .0) (c .before .before .before .before .pre .0) (omega arith))
-
-add-end : tie.Need-add-end Inv-loop μ-loop
-add-end c = omega (arith, stands-level (c .before .before .loop .inv .0) (c .before .before .before .before .before .pre .0) (omega arith))
-
-mul-end : tie.Need-mul-end Inv-loop μ-loop
-mul-end c = omega (arith, stands-level (c .before .before .loop .inv .0) (c .before .before .before .before .before .pre .0) (omega arith))
-
-element-copy-out-end : tie.Need-element-copy-out-end Inv-loop μ-loop
-element-copy-out-end c = omega (arith, stands-level (c .before .before .loop .inv .0) (c .before .before .before .before .before .pre .0) (omega arith))
-
-element-copy-out-code : tie.Need-element-copy-out-code Inv-loop μ-loop
-element-copy-out-code c = omega (arith, stands-level (c .before .before .before .loop .inv .0) (c .before .before .before .before .before .before .pre .0) (omega arith))
-
 add-nodes : tie.Need-add-nodes Inv-loop μ-loop
 add-nodes c =
-    let l = c .before .before .before .before .loop in
-    let f = stands-level (l .inv .0) (c .before .before .before .before .before .before .before .pre .0) (omega arith) in
-    omega (arith, f, l .inv .0 .inside, l .inv .1 .few, keeps-few (c .before .before .before .before .before .before .before .args .t2) (c .before .before .before .before .before .before .before .args .s .now) (l .kept) (c .before .before .before .before .before .before .before .pre .0) (l .inv .1 .keeps))
+    let l = c .before .loop in
+    let f = stands-level (l .inv .0) (c .before .before .before .before .pre .0) (omega arith) in
+    omega (arith, f, l .inv .0 .inside, l .inv .1 .few, keeps-few (c .before .before .before .before .args .t2) (c .before .before .before .before .args .s .now) (l .kept) (c .before .before .before .before .pre .0) (l .inv .1 .keeps))
 
-sub-open-node : tie.Need-sub-open-node Inv-loop μ-loop
-sub-open-node c = omega (arith, stands-level (c .before .before .before .before .loop .inv .0) (c .before .before .before .before .before .before .before .pre .0) (omega arith))
-
-part-open-node-start : tie.Need-part-open-node-start Inv-loop μ-loop
-part-open-node-start c = omega (arith, stands-level (c .before .before .before .before .loop .inv .0) (c .before .before .before .before .before .before .before .pre .0) (omega arith))
-
-part-open-node-end : tie.Need-part-open-node-end Inv-loop μ-loop
-part-open-node-end c = omega (arith, stands-level (c .before .before .before .before .loop .inv .0) (c .before .before .before .before .before .before .before .pre .0) (omega arith))
-
-open-node-requires : tie.Need-open-node-requires Inv-loop μ-loop
-open-node-requires c κs =
-    let w = c .before .before .before .before .before .loop .inv .0 in
-    let f = stands-level w (c .before .before .before .before .before .before .before .before .pre .0) (omega arith) in
-    (w .low, w .high, omega arith, omega arith, simp length-take (omega arith))
+open-at-requires : tie.Need-open-at-requires Inv-loop μ-loop
+open-at-requires c κs =
+    let w = c .before .before .before .before .before .before .loop .inv .0 in
+    (c .before .before .before .before .before .before .before .before .before .pre .0, ((search needs, search needs), (w .low, w .high, omega arith)))
 
 enum-known-opened : tie.Need-enum-known-opened Inv-loop μ-loop
 enum-known-opened c = search needs
@@ -88,82 +59,82 @@ enum-known-opened-2 c = search needs
 
 returns : tie.Need-returns Inv-loop μ-loop
 returns c =
-    let a = c .before .before .before .before .before .before .before .before .before .before .before .before .args in
-    let l = c .before .before .before .before .before .before .before .before .before .loop in
-    let e = sym (stands-open (l .inv .0)) ∙ sym (c .before .before .before .open-node .ensures) ∙ ap timeOpened (c .before .opened2 .given .1) in
+    let a = c .before .before .before .before .before .before .before .before .before .before .before .before .before .args in
+    let l = c .before .before .before .before .before .before .before .before .before .before .loop in
+    let e = sym (stands-opened (l .inv .0)) ∙ sym (c .before .before .before .open-at .ensures) ∙ ap timeOpened (c .before .opened2 .given .1) in
     (sym (target-refused (a .t2 .pins) (nodeTime (fetchedAt (a .t2) (a .s .now))) (a .target) (keptIn (l .kept)) (l .nodes) (l .v) _ _ (l .inv .0 .one) (omega arith) e) ∙ l .inv .2, tt)
 
 root-place-requires : tie.Need-root-place-requires Inv-loop μ-loop
 root-place-requires c κs = tt
 
 mul-kept : tie.Need-mul-kept Inv-loop μ-loop
-mul-kept c = let l = c .before .before .before .before .before .before .before .before .before .before .before .loop in omega (arith, room (c .before .before .before .before .before .before .before .before .before .before .before .before .before .before .args .t2) (c .before .before .before .before .before .before .before .before .before .before .before .before .before .before .args .s .now) (l .inv .0) (l .inv .1) (omega arith) (c .before .before .before .before .before .before .before .before .before .before .before .before .before .before .pre .0))
+mul-kept c = let l = c .before .before .before .before .before .before .before .before .before .before .before .before .loop in omega (arith, room (c .before .before .before .before .before .before .before .before .before .before .before .before .before .before .before .args .t2) (c .before .before .before .before .before .before .before .before .before .before .before .before .before .before .before .args .s .now) (l .inv .0) (l .inv .1) (omega arith) (c .before .before .before .before .before .before .before .before .before .before .before .before .before .before .before .pre .0))
 
 element-write-kept : tie.Need-element-write-kept Inv-loop μ-loop
-element-write-kept c = let l = c .before .before .before .before .before .before .before .before .before .before .before .loop in room (c .before .before .before .before .before .before .before .before .before .before .before .before .before .before .args .t2) (c .before .before .before .before .before .before .before .before .before .before .before .before .before .before .args .s .now) (l .inv .0) (l .inv .1) (omega arith) (c .before .before .before .before .before .before .before .before .before .before .before .before .before .before .pre .0)
+element-write-kept c = let l = c .before .before .before .before .before .before .before .before .before .before .before .before .loop in room (c .before .before .before .before .before .before .before .before .before .before .before .before .before .before .before .args .t2) (c .before .before .before .before .before .before .before .before .before .before .before .before .before .before .before .args .s .now) (l .inv .0) (l .inv .1) (omega arith) (c .before .before .before .before .before .before .before .before .before .before .before .before .before .before .before .pre .0)
 
 mul-kept-2 : tie.Need-mul-kept-2 Inv-loop μ-loop
-mul-kept-2 c = let l = c .before .before .before .before .before .before .before .before .before .before .before .loop in omega (arith, room (c .before .before .before .before .before .before .before .before .before .before .before .before .before .before .args .t2) (c .before .before .before .before .before .before .before .before .before .before .before .before .before .before .args .s .now) (l .inv .0) (l .inv .1) (omega arith) (c .before .before .before .before .before .before .before .before .before .before .before .before .before .before .pre .0))
+mul-kept-2 c = let l = c .before .before .before .before .before .before .before .before .before .before .before .before .loop in omega (arith, room (c .before .before .before .before .before .before .before .before .before .before .before .before .before .before .before .args .t2) (c .before .before .before .before .before .before .before .before .before .before .before .before .before .before .before .args .s .now) (l .inv .0) (l .inv .1) (omega arith) (c .before .before .before .before .before .before .before .before .before .before .before .before .before .before .before .pre .0))
 
 element-write-kept-2 : tie.Need-element-write-kept-2 Inv-loop μ-loop
-element-write-kept-2 c = let l = c .before .before .before .before .before .before .before .before .before .before .before .loop in room (c .before .before .before .before .before .before .before .before .before .before .before .before .before .before .args .t2) (c .before .before .before .before .before .before .before .before .before .before .before .before .before .before .args .s .now) (l .inv .0) (l .inv .1) (omega arith) (c .before .before .before .before .before .before .before .before .before .before .before .before .before .before .pre .0)
+element-write-kept-2 c = let l = c .before .before .before .before .before .before .before .before .before .before .before .before .loop in room (c .before .before .before .before .before .before .before .before .before .before .before .before .before .before .before .args .t2) (c .before .before .before .before .before .before .before .before .before .before .before .before .before .before .before .args .s .now) (l .inv .0) (l .inv .1) (omega arith) (c .before .before .before .before .before .before .before .before .before .before .before .before .before .before .before .pre .0)
 
 add-kept : tie.Need-add-kept Inv-loop μ-loop
 add-kept c =
-    let w = c .before .before .before .before .before .before .before .before .before .before .before .before .loop .inv .0 in
+    let w = c .before .before .before .before .before .before .before .before .before .before .before .before .before .loop .inv .0 in
     omega (arith, stands-place w (omega arith), w .inside)
 
 sub-kept : tie.Need-sub-kept Inv-loop μ-loop
 sub-kept c =
-    let w = c .before .before .before .before .before .before .before .before .before .before .before .before .loop .inv .0 in
+    let w = c .before .before .before .before .before .before .before .before .before .before .before .before .before .loop .inv .0 in
     omega (arith, stands-place w (omega arith), w .inside)
 
 mul-kept-3 : tie.Need-mul-kept-3 Inv-loop μ-loop
-mul-kept-3 c = let l = c .before .before .before .before .before .before .before .before .before .before .before .before .loop in omega (arith, room (c .before .before .before .before .before .before .before .before .before .before .before .before .before .before .before .args .t2) (c .before .before .before .before .before .before .before .before .before .before .before .before .before .before .before .args .s .now) (l .inv .0) (l .inv .1) (omega arith) (c .before .before .before .before .before .before .before .before .before .before .before .before .before .before .before .pre .0))
+mul-kept-3 c = let l = c .before .before .before .before .before .before .before .before .before .before .before .before .before .loop in omega (arith, room (c .before .before .before .before .before .before .before .before .before .before .before .before .before .before .before .before .args .t2) (c .before .before .before .before .before .before .before .before .before .before .before .before .before .before .before .before .args .s .now) (l .inv .0) (l .inv .1) (omega arith) (c .before .before .before .before .before .before .before .before .before .before .before .before .before .before .before .before .pre .0))
 
 element-write-kept-3 : tie.Need-element-write-kept-3 Inv-loop μ-loop
-element-write-kept-3 c = let l = c .before .before .before .before .before .before .before .before .before .before .before .before .loop in room (c .before .before .before .before .before .before .before .before .before .before .before .before .before .before .before .args .t2) (c .before .before .before .before .before .before .before .before .before .before .before .before .before .before .before .args .s .now) (l .inv .0) (l .inv .1) (omega arith) (c .before .before .before .before .before .before .before .before .before .before .before .before .before .before .before .pre .0)
+element-write-kept-3 c = let l = c .before .before .before .before .before .before .before .before .before .before .before .before .before .loop in room (c .before .before .before .before .before .before .before .before .before .before .before .before .before .before .before .before .args .t2) (c .before .before .before .before .before .before .before .before .before .before .before .before .before .before .before .before .args .s .now) (l .inv .0) (l .inv .1) (omega arith) (c .before .before .before .before .before .before .before .before .before .before .before .before .before .before .before .before .pre .0)
 
 add-kept-2 : tie.Need-add-kept-2 Inv-loop μ-loop
-add-kept-2 c = let l = c .before .before .before .before .before .before .before .before .before .before .before .before .loop in omega (arith, room (c .before .before .before .before .before .before .before .before .before .before .before .before .before .before .before .args .t2) (c .before .before .before .before .before .before .before .before .before .before .before .before .before .before .before .args .s .now) (l .inv .0) (l .inv .1) (omega arith) (c .before .before .before .before .before .before .before .before .before .before .before .before .before .before .before .pre .0))
+add-kept-2 c = let l = c .before .before .before .before .before .before .before .before .before .before .before .before .before .loop in omega (arith, room (c .before .before .before .before .before .before .before .before .before .before .before .before .before .before .before .before .args .t2) (c .before .before .before .before .before .before .before .before .before .before .before .before .before .before .before .before .args .s .now) (l .inv .0) (l .inv .1) (omega arith) (c .before .before .before .before .before .before .before .before .before .before .before .before .before .before .before .before .pre .0))
 
 side-of-requires : tie.Need-side-of-requires Inv-loop μ-loop
 side-of-requires c κs =
-    let w = c .before .before .before .before .before .before .before .before .before .before .before .loop .inv .0 in
+    let w = c .before .before .before .before .before .before .before .before .before .before .before .before .loop .inv .0 in
     omega (arith, stands-place w (omega arith), w .inside)
 
 child-of-requires : tie.Need-child-of-requires Inv-loop μ-loop
-child-of-requires c κs = omega (arith, stands-level (c .before .before .before .before .before .before .before .before .before .before .before .before .loop .inv .0) (c .before .before .before .before .before .before .before .before .before .before .before .before .before .before .before .pre .0) (omega arith))
+child-of-requires c κs = omega (arith, stands-level (c .before .before .before .before .before .before .before .before .before .before .before .before .before .loop .inv .0) (c .before .before .before .before .before .before .before .before .before .before .before .before .before .before .before .before .pre .0) (omega arith))
 
 add-depth : tie.Need-add-depth Inv-loop μ-loop
-add-depth c = omega (arith, stands-level (c .before .before .before .before .before .before .before .before .before .before .before .before .before .loop .inv .0) (c .before .before .before .before .before .before .before .before .before .before .before .before .before .before .before .before .pre .0) (omega arith))
+add-depth c = omega (arith, stands-level (c .before .before .before .before .before .before .before .before .before .before .before .before .before .before .loop .inv .0) (c .before .before .before .before .before .before .before .before .before .before .before .before .before .before .before .before .before .pre .0) (omega arith))
 
 loop-less : tie.Need-loop-less Inv-loop μ-loop
 loop-less c =
-    let a = c .before .before .before .before .before .before .before .before .before .before .before .before .before .before .before .before .args in
-    let l = c .before .before .before .before .before .before .before .before .before .before .before .before .before .loop in
+    let a = c .before .before .before .before .before .before .before .before .before .before .before .before .before .before .before .before .before .args in
+    let l = c .before .before .before .before .before .before .before .before .before .before .before .before .before .before .loop in
     let x = c .before .before .before .before .before .opened .given .0 .0 in
     rw (c .before .side-of .ensures) (side-in (ltb x (a .target)) (l .here) (stands-pins (l .inv .0) (omega arith)) .0)
 
 loop-again : tie.Need-loop-again Inv-loop μ-loop
 loop-again c =
-    let a = c .before .before .before .before .before .before .before .before .before .before .before .before .before .before .before .before .args in
-    let l = c .before .before .before .before .before .before .before .before .before .before .before .before .before .loop in
+    let a = c .before .before .before .before .before .before .before .before .before .before .before .before .before .before .before .before .before .args in
+    let l = c .before .before .before .before .before .before .before .before .before .before .before .before .before .before .loop in
     let n = a .t2 .pins in
     let read = nodeTime (fetchedAt (a .t2) (a .s .now)) in
     let x = c .before .before .before .before .before .opened .given .0 .0 in
     let t = a .target in
-    let e : read (l .v) ≡ at x = sym (stands-open (l .inv .0)) ∙ sym (c .before .before .before .before .before .before .before .open-node .ensures) ∙ ap timeOpened (c .before .before .before .before .before .opened .given .1) in
-    let p : c .before .before .if1 .kept ≡ cond (ltb x t) (l .kept) (more (a .t2) (a .s .now) (l .kept) (l .v) x) = ⊎-elim
+    let e : read (l .v) ≡ at x = sym (stands-opened (l .inv .0)) ∙ sym (c .before .before .before .before .before .before .before .open-at .ensures) ∙ ap timeOpened (c .before .before .before .before .before .opened .given .1) in
+    let p : c .before .before .if1 .kept ≡ cond (ltb x t) (l .kept) (withNode (a .t2) (a .s .now) (l .kept) (l .v) x) = ⊎-elim
     (λ w. w .2 ∙ rw (le-ltb x t (w .0 .taken), c .before .before .before .root-place .ensures) (added (a .t2) (a .s .now) (l .kept) (l .v) x _ (sym (stands-rank (l .inv .0)))))
     (λ w. w .1 ∙ rw (lt-ltb x (a .target) (omega (arith, w .0 .left))))
     (c .before .before .if1 .came) in
     rw (c .child-of .ensures, c .before .side-of .ensures, p) (
       stands-child (l .inv .0) (ltb x t) x (omega arith) e,
-      resumes-child (a .t2) (a .s .now) (l .inv .0) (l .inv .1) (omega arith) (c .before .before .before .before .before .before .before .before .before .before .before .before .before .before .before .before .pre .0) x t e,
-      ap (λ (k : List ℕ). targetFrom n read t k (l .nodes + 1) (childOf (ltb x t) (l .v))) (kept-child (a .t2) (a .s .now) (l .inv .0) (l .inv .1) (omega arith) (c .before .before .before .before .before .before .before .before .before .before .before .before .before .before .before .before .pre .0) x t)
+      resumes-child (a .t2) (a .s .now) (l .inv .0) (l .inv .1) (omega arith) (c .before .before .before .before .before .before .before .before .before .before .before .before .before .before .before .before .before .pre .0) x t e,
+      ap (λ (k : List ℕ). targetFrom n read t k (l .nodes + 1) (childOf (ltb x t) (l .v))) (kept-child (a .t2) (a .s .now) (l .inv .0) (l .inv .1) (omega arith) (c .before .before .before .before .before .before .before .before .before .before .before .before .before .before .before .before .before .pre .0) x t)
           ∙ sym (target-step n read t (keptIn (l .kept)) (l .v) x (l .inv .0 .one) (omega arith) e (l .nodes)) ∙ l .inv .2,
-      ap (λ (k : List ℕ). keptFrom n read t k (childOf (ltb x t) (l .v))) (kept-child (a .t2) (a .s .now) (l .inv .0) (l .inv .1) (omega arith) (c .before .before .before .before .before .before .before .before .before .before .before .before .before .before .before .before .pre .0) x t)
+      ap (λ (k : List ℕ). keptFrom n read t k (childOf (ltb x t) (l .v))) (kept-child (a .t2) (a .s .now) (l .inv .0) (l .inv .1) (omega arith) (c .before .before .before .before .before .before .before .before .before .before .before .before .before .before .before .before .before .pre .0) x t)
           ∙ sym (kept-step n read t (keptIn (l .kept)) (l .v) x (l .inv .0 .one) (omega arith) e) ∙ l .inv .3,
     )
 
@@ -186,17 +157,8 @@ go-down-spec =
     height-requires
     sub-depth
     loop-holds
-    mul-start
-    element-copy-out-start
-    add-end
-    mul-end
-    element-copy-out-end
-    element-copy-out-code
     add-nodes
-    sub-open-node
-    part-open-node-start
-    part-open-node-end
-    open-node-requires
+    open-at-requires
     enum-known-opened
     enum-known-opened-2
     returns

@@ -1,18 +1,17 @@
 -- `access` meets its contract.
-use mathlib.Core.Path.{_≡_, refl, sym, ap, _∙_}
 use native.Mathlib.Omega.{arith}
+use mathlib.Core.Path.{_≡_, refl, sym, ap, _∙_}
+use Prim.Native.Nat.{_+_, _-_, _≤_, _<_}
 use lib.Dec.{ltb}
-use lib.ListN.{length-take}
 use borrow.Author.Needs.{needs}
 use Rattle.tree.specs.Shape.{rank}
 use Rattle.tree.specs.Levels.{fetchedAt}
 use Rattle.tree.specs.Times.{at, nodeTime, timeOpened}
 use Rattle.tree.specs.Walks.{accessAnswer}
-use Rattle.tree.proofs.Stretches.{side-in}
 use Rattle.tree.specs.Standing.{Stands, accessFrom}
-use Rattle.tree.proofs.Steps.{stands-root, stands-node, stands-rank, stands-level, stands-open, stands-child, side-holds, access-start, access-end, access-refused, access-step}
-use Prim.Native.Nat.{_+_, _-_, _≤_, _<_}
 use Rattle.tree.proofs.Heights.{place-in}
+use Rattle.tree.proofs.Stretches.{side-in}
+use Rattle.tree.proofs.Steps.{stands-root, stands-node, stands-rank, stands-level, stands-opened, stands-child, side-holds, access-start, access-end, access-refused, access-step}
 use Rattle.tree.proofs.walking.access.Statement.{statement}
 use Rattle.tree.proofs.walking.access.Tie as tie
 
@@ -29,49 +28,15 @@ loop-holds c =
     let a = c .before .args in
     (stands-root (a .t2) (a .s .now), refl, omega arith, omega (arith, c .before .pre .1), sym (access-start (a .t2 .pins) (nodeTime (fetchedAt (a .t2) (a .s .now))) (a .i)))
 
-mul-start : tie.Need-mul-start Inv-loop μ-loop
-mul-start c = omega (arith, stands-level (c .loop .inv .0) (c .before .before .pre .0) (stands-node (c .loop .inv .0) (omega arith)))
-
-element-copy-out-start : tie.Need-element-copy-out-start Inv-loop μ-loop
-element-copy-out-start c = omega (arith, stands-level (c .loop .inv .0) (c .before .before .pre .0) (stands-node (c .loop .inv .0) (omega arith)))
-
-add-end : tie.Need-add-end Inv-loop μ-loop
-add-end c = omega (arith, stands-level (c .before .loop .inv .0) (c .before .before .before .pre .0) (stands-node (c .before .loop .inv .0) (omega arith)))
-
-mul-end : tie.Need-mul-end Inv-loop μ-loop
-mul-end c = omega (arith, stands-level (c .before .loop .inv .0) (c .before .before .before .pre .0) (stands-node (c .before .loop .inv .0) (omega arith)))
-
-element-copy-out-end : tie.Need-element-copy-out-end Inv-loop μ-loop
-element-copy-out-end c = omega (arith, stands-level (c .before .loop .inv .0) (c .before .before .before .pre .0) (stands-node (c .before .loop .inv .0) (omega arith)))
-
-element-copy-out-code : tie.Need-element-copy-out-code Inv-loop μ-loop
-element-copy-out-code c = omega (arith, stands-level (c .before .before .loop .inv .0) (c .before .before .before .before .pre .0) (stands-node (c .before .before .loop .inv .0) (omega arith)))
-
 add-nodes : tie.Need-add-nodes Inv-loop μ-loop
 add-nodes c =
-    let w = c .before .before .before .loop .inv .0 in
-    omega (arith, stands-level w (c .before .before .before .before .before .pre .0) (stands-node w (omega arith)))
+    let w = c .loop .inv .0 in
+    omega (arith, stands-level w (c .before .before .pre .0) (stands-node w (omega arith)))
 
-sub-open-node : tie.Need-sub-open-node Inv-loop μ-loop
-sub-open-node c =
-    let w = c .before .before .before .loop .inv .0 in
-    omega (arith, stands-level w (c .before .before .before .before .before .pre .0) (stands-node w (omega arith)))
-
-part-open-node-start : tie.Need-part-open-node-start Inv-loop μ-loop
-part-open-node-start c =
-    let w = c .before .before .before .loop .inv .0 in
-    omega (arith, stands-level w (c .before .before .before .before .before .pre .0) (stands-node w (omega arith)))
-
-part-open-node-end : tie.Need-part-open-node-end Inv-loop μ-loop
-part-open-node-end c =
-    let w = c .before .before .before .loop .inv .0 in
-    omega (arith, stands-level w (c .before .before .before .before .before .pre .0) (stands-node w (omega arith)))
-
-open-node-requires : tie.Need-open-node-requires Inv-loop μ-loop
-open-node-requires c κs =
-    let w = c .before .before .before .before .loop .inv .0 in
-    let f = stands-level (c .before .before .before .before .loop .inv .0) (c .before .before .before .before .before .before .pre .0) (stands-node (c .before .before .before .before .loop .inv .0) (omega arith)) in
-    (w .low, w .high, stands-node (c .before .before .before .before .loop .inv .0) (omega arith), omega arith, simp length-take (omega arith))
+open-at-requires : tie.Need-open-at-requires Inv-loop μ-loop
+open-at-requires c κs =
+    let w = c .before .before .before .before .before .loop .inv .0 in
+    (c .before .before .before .before .before .before .before .pre .0, ((search needs, search needs), (w .low, w .high, stands-node w (omega arith))))
 
 enum-known-opened : tie.Need-enum-known-opened Inv-loop μ-loop
 enum-known-opened c = search needs
@@ -81,64 +46,62 @@ enum-known-opened-2 c = search needs
 
 returns : tie.Need-returns Inv-loop μ-loop
 returns c =
-    let w = c .before .before .before .before .before .before .before .before .loop .inv .0 in
-    let a = c .before .before .before .before .before .before .before .before .before .before .args in
-    let l = c .before .before .before .before .before .before .before .before .loop in
-    let e = sym (stands-open (l .inv .0)) ∙ sym (c .before .before .before .open-node .ensures) ∙ ap timeOpened (c .before .opened2 .given .1) in
-    sym (access-refused (a .t2 .pins) (nodeTime (fetchedAt (a .t2) (a .s .now))) (a .i) (l .nodes) (l .v) _ _ (l .inv .0 .one) (stands-node w (omega arith)) e) ∙ l .inv .4
+    let a = c .before .before .before .before .before .before .before .before .before .before .before .args in
+    let l = c .before .before .before .before .before .before .before .before .before .loop in
+    let e = sym (stands-opened (l .inv .0)) ∙ sym (c .before .before .before .open-at .ensures) ∙ ap timeOpened (c .before .opened2 .given .1) in
+    sym (access-refused (a .t2 .pins) (nodeTime (fetchedAt (a .t2) (a .s .now))) (a .i) (l .nodes) (l .v) _ _ (l .inv .0 .one) (stands-node (l .inv .0) (omega arith)) e) ∙ l .inv .4
 
 root-place-requires : tie.Need-root-place-requires Inv-loop μ-loop
 root-place-requires c κs = tt
 
 add-rank : tie.Need-add-rank Inv-loop μ-loop
-add-rank c = omega (arith, place-in (c .before .before .before .before .before .before .before .before .before .before .loop .here .pins) (omega arith), c .before .before .before .before .before .before .before .before .before .before .loop .inv .0 .inside)
+add-rank c = omega (arith, place-in (c .before .before .before .before .before .before .before .before .before .before .before .loop .here .pins) (omega arith), c .before .before .before .before .before .before .before .before .before .before .before .loop .inv .0 .inside)
 
 sub-rank : tie.Need-sub-rank Inv-loop μ-loop
-sub-rank c = omega (arith, place-in (c .before .before .before .before .before .before .before .before .before .before .loop .here .pins) (omega arith), c .before .before .before .before .before .before .before .before .before .before .loop .inv .0 .inside)
+sub-rank c = omega (arith, place-in (c .before .before .before .before .before .before .before .before .before .before .before .loop .here .pins) (omega arith), c .before .before .before .before .before .before .before .before .before .before .before .loop .inv .0 .inside)
 
 returns-2 : tie.Need-returns-2 Inv-loop μ-loop
 returns-2 c =
-    let w = c .before .before .before .before .before .before .before .before .before .before .before .loop .inv .0 in
-    let a = c .before .before .before .before .before .before .before .before .before .before .before .before .before .args in
-    let l = c .before .before .before .before .before .before .before .before .before .before .before .loop in
-    let e = sym (stands-open (l .inv .0)) ∙ sym (c .before .before .before .before .before .before .open-node .ensures) ∙ ap timeOpened (c .before .before .before .before .opened .given .1) in
+    let a = c .before .before .before .before .before .before .before .before .before .before .before .before .before .before .args in
+    let l = c .before .before .before .before .before .before .before .before .before .before .before .before .loop in
+    let e = sym (stands-opened (l .inv .0)) ∙ sym (c .before .before .before .before .before .before .open-at .ensures) ∙ ap timeOpened (c .before .before .before .before .opened .given .1) in
     let r : rank (a .t2 .pins) (l .v) ≡ a .i = stands-rank (l .inv .0) ∙ omega arith in
-    sym (access-end (a .t2 .pins) (nodeTime (fetchedAt (a .t2) (a .s .now))) (a .i) (l .nodes) (l .v) (c .before .before .before .before .opened .given .0 .0) (l .inv .0 .one) (stands-node w (omega arith)) e r) ∙ l .inv .4
+    sym (access-end (a .t2 .pins) (nodeTime (fetchedAt (a .t2) (a .s .now))) (a .i) (l .nodes) (l .v) (c .before .before .before .before .opened .given .0 .0) (l .inv .0 .one) (stands-node (l .inv .0) (omega arith)) e r) ∙ l .inv .4
 
 side-of-requires : tie.Need-side-of-requires Inv-loop μ-loop
-side-of-requires c κs = omega (arith, place-in (c .before .before .before .before .before .before .before .before .before .before .before .loop .here .pins) (omega arith), c .before .before .before .before .before .before .before .before .before .before .before .loop .inv .0 .inside)
+side-of-requires c κs = omega (arith, place-in (c .before .before .before .before .before .before .before .before .before .before .before .before .loop .here .pins) (omega arith), c .before .before .before .before .before .before .before .before .before .before .before .before .loop .inv .0 .inside)
 
 child-of-requires : tie.Need-child-of-requires Inv-loop μ-loop
 child-of-requires c κs =
-    let w = c .before .before .before .before .before .before .before .before .before .before .before .before .loop .inv .0 in
-    omega (arith, stands-node w (omega arith), stands-level w (c .before .before .before .before .before .before .before .before .before .before .before .before .before .before .pre .0) (stands-node w (omega arith)))
+    let w = c .before .before .before .before .before .before .before .before .before .before .before .before .before .loop .inv .0 in
+    omega (arith, stands-level w (c .before .before .before .before .before .before .before .before .before .before .before .before .before .before .before .pre .0) (stands-node w (omega arith)), stands-node w (omega arith))
 
 add-depth : tie.Need-add-depth Inv-loop μ-loop
 add-depth c =
-    let w = c .before .before .before .before .before .before .before .before .before .before .before .before .before .loop .inv .0 in
-    omega (arith, stands-level w (c .before .before .before .before .before .before .before .before .before .before .before .before .before .before .before .pre .0) (stands-node w (omega arith)))
+    let w = c .before .before .before .before .before .before .before .before .before .before .before .before .before .before .loop .inv .0 in
+    omega (arith, stands-level w (c .before .before .before .before .before .before .before .before .before .before .before .before .before .before .before .before .pre .0) (stands-node w (omega arith)))
 
 loop-less : tie.Need-loop-less Inv-loop μ-loop
 loop-less c =
-    let a = c .before .before .before .before .before .before .before .before .before .before .before .before .before .before .before .args in
-    let l = c .before .before .before .before .before .before .before .before .before .before .before .before .before .loop in
+    let a = c .before .before .before .before .before .before .before .before .before .before .before .before .before .before .before .before .args in
+    let l = c .before .before .before .before .before .before .before .before .before .before .before .before .before .before .loop in
     rw (c .before .side-of .ensures) (side-in (ltb (l .here .start + c .before .before .before .before .root-place .result - 1) (a .i)) (l .here) (omega arith) .0)
 
 loop-again : tie.Need-loop-again Inv-loop μ-loop
 loop-again c =
-    let w = c .before .before .before .before .before .before .before .before .before .before .before .before .before .loop .inv .0 in
-    let a = c .before .before .before .before .before .before .before .before .before .before .before .before .before .before .before .args in
-    let l = c .before .before .before .before .before .before .before .before .before .before .before .before .before .loop in
+    let a = c .before .before .before .before .before .before .before .before .before .before .before .before .before .before .before .before .args in
+    let l = c .before .before .before .before .before .before .before .before .before .before .before .before .before .before .loop in
+    let w = l .inv .0 in
     let n = a .t2 .pins in
     let time = nodeTime (fetchedAt (a .t2) (a .s .now)) in
     let x = c .before .before .before .before .before .before .opened .given .0 .0 in
-    let e : time (l .v) ≡ at x = sym (stands-open (l .inv .0)) ∙ sym (c .before .before .before .before .before .before .before .before .open-node .ensures) ∙ ap timeOpened (c .before .before .before .before .before .before .opened .given .1) in
-    let r : l .here .start + c .before .before .before .before .root-place .result - 1 ≡ rank n (l .v) = sym (stands-rank (l .inv .0) ∙ omega arith) in
+    let e : time (l .v) ≡ at x = sym (stands-opened w) ∙ sym (c .before .before .before .before .before .before .before .before .open-at .ensures) ∙ ap timeOpened (c .before .before .before .before .before .before .opened .given .1) in
+    let r : l .here .start + c .before .before .before .before .root-place .result - 1 ≡ rank n (l .v) = sym (stands-rank w ∙ omega arith) in
     let ne : rank n (l .v) ≡ a .i → ⊥ = λ z. c .before .before .if1 .left (r ∙ z) in
     let k = stands-node w (omega arith) in
-    let h = side-holds (l .here) (a .i) (rank n (l .v)) (stands-rank (l .inv .0)) (l .inv .2) (l .inv .3) ne in
+    let h = side-holds (l .here) (a .i) (rank n (l .v)) (stands-rank w) (l .inv .2) (l .inv .3) ne in
     rw (c .child-of .ensures, c .before .side-of .ensures, r) (
-      stands-child (l .inv .0) (ltb (rank n (l .v)) (a .i)) x k e,
+      stands-child w (ltb (rank n (l .v)) (a .i)) x k e,
       omega arith,
       h .0,
       h .1,
@@ -152,17 +115,8 @@ access-spec =
     Inv-loop
     μ-loop
     loop-holds
-    mul-start
-    element-copy-out-start
-    add-end
-    mul-end
-    element-copy-out-end
-    element-copy-out-code
     add-nodes
-    sub-open-node
-    part-open-node-start
-    part-open-node-end
-    open-node-requires
+    open-at-requires
     enum-known-opened
     enum-known-opened-2
     returns

@@ -6,7 +6,7 @@ use Rattle.tree.specs.Levels.{fetchedAt}
 use Rattle.tree.specs.Times.{nodeTime}
 use Rattle.tree.specs.Walks.{found, keptFrom, targetFrom}
 use Rattle.tree.specs.Remembering.{entries, keptIn, positionBy, answerBy, Keeps}
-use Rattle.tree.proofs.Steps.{stands-first}
+use Rattle.tree.proofs.Steps.{root-depth, stands-root}
 use Rattle.tree.proofs.Remembering.{keeps-none, keeps-few, resumes-root, remembers-opened}
 use borrow.Author.Needs.{needs}
 use Rattle.tree.proofs.walking.search.Statement.{statement}
@@ -20,7 +20,7 @@ go-down-requires c κs =
     let a = c .before .before .args in
     let e = sym (c .nothing-kept .ensures) in
     let none = subst (Keeps (a .levels) (a .s .now)) e (keeps-none (a .levels) (a .s .now)) in
-    (c .before .before .pre, (stands-first (a .levels) (a .s .now), resumes-root (a .levels) (a .s .now) (c .nothing-kept .result) none (ap (λ (w : Remembered). w .count) (c .nothing-kept .ensures))))
+    (c .before .before .pre, (rw root-depth (stands-root (a .levels) (a .s .now)), resumes-root (a .levels) (a .s .now) (c .nothing-kept .result) none (ap (λ (w : Remembered). w .count) (c .nothing-kept .ensures))))
 
 enum-known-ending : tie.Need-enum-known-ending
 enum-known-ending c = search needs
