@@ -195,6 +195,7 @@ demand-2 = record {
 
 -- ---- sweep
 
+-- in range, whatever f gives at 0
 map-at : (f : ℕ → ℕ) (ts : List ℕ) (i : ℕ) → i < length ts → getD (map f ts) i 0 ≡ f (getD ts i 0)
 map-at f [] i h = absurd (omega arith)
 map-at f (t ∷ ts) zero h = refl
@@ -222,16 +223,18 @@ module _ (s ts answers : List ℕ) (a : Accepted s) (o : T (ordered ts)) (e : le
   position-at : (i : ℕ) → i < length ts → getD (sweepOutput s ts answers) i 0 ≡ smaller (getD ts i 0) (plainList s)
   position-at i h = ap (λ (l : List ℕ). getD l i 0) answers-are ∙ map-at (λ t. smaller t (plainList s)) ts i h
 
-  sweeps : SweepsAs s ts answers (different (plainList s) ts)
+  sweeps : SweepsAs s ts (different (plainList s) ts) (sweepOutput s ts answers)
   sweeps = record {
-    sweep = ap (λ (r : Sweep). r .answer) swept-as;
     searches = λ i h. searches s a (getD ts i 0) ∙ ap (λ (p : ℕ). found p (length (path (plainList s) (getD ts i 0)))) (sym (position-at i h));
     positions = position-at;
     count = ap length answers-are ∙ length-map ts (λ t. smaller t (plainList s));
     different-nodes = refl;
     at-most-pins = sweep-finds .pins (plainList s) ts;
-    at-most-paths = sweep-finds .heights (plainList s) ts;
+    at-most-heights = sweep-finds .heights (plainList s) ts;
   }
+
+  carries : sweepOf s ts (length answers) .answer ≡ found 0 (different (plainList s) ts)
+  carries = ap (λ (r : Sweep). r .answer) swept-as
 
   nodes-of : Answer → ℕ
   nodes-of (found p k) = k
@@ -241,10 +244,14 @@ module _ (s ts answers : List ℕ) (a : Accepted s) (o : T (ordered ts)) (e : le
   is-found (found p k) = true
   is-found (stopped r c) = false
 
-  code-sweeps : (r : Swept) → swept r ≡ sweepOf s ts (length answers) .answer → CodeSweepsAs s ts answers r
+  code-sweeps : (r : Swept) (after : List ℕ) → swept r ≡ sweepOf s ts (length answers) .answer → after ≡ sweepOutput s ts answers → CodeSweepsAs s ts r after
   unfolding nodes-of is-found
-  code-sweeps (sweeping.Nodes k) h = subst (SweepsAs s ts answers) (sym (ap nodes-of (h ∙ sweeps .sweep))) sweeps
-  code-sweeps (sweeping.Refused r) h = absurd (true≢false (ap is-found (sym (h ∙ sweeps .sweep))))
+  code-sweeps (sweeping.Nodes k) after h q =
+      subst (SweepsAs s ts k) (sym q) (subst (λ (m : ℕ). SweepsAs s ts m (sweepOutput s ts answers)) (sym (ap nodes-of (h ∙ carries))) sweeps)
+  code-sweeps (sweeping.Refused r) after h q = absurd (true≢false (ap is-found (sym (h ∙ carries))))
 
 pub demand-3 : Demand3
-demand-3 = record { sweeps = sweeps; code-sweeps = λ s ts answers r h a o e. code-sweeps s ts answers a o e r h }
+demand-3 = record {
+  sweeps = λ s ts answers a o e. (different (plainList s) ts, carries s ts answers a o e, sweeps s ts answers a o e);
+  code-sweeps = code-sweeps;
+}

@@ -2,10 +2,10 @@
 use mathlib.Core.Path.{_≡_, refl, sym, ap, _∙_}
 use mathlib.Core.List.{List, _++_}
 use Prim.Native.Nat.{ℕ, zero, suc, _+_, _-_, _*_, _/_, _^_, _≤_, _<_, min}
-use native.Mathlib.Nat.{zero-add, add-sub-cancel-left}
+use native.Mathlib.Nat.{add-sub-cancel-left}
 use native.Mathlib.Numerals.{add-one}
 use native.Mathlib.Omega.{arith}
-use lib.ListN.{length, drop, getD, length-append}
+use lib.ListN.{length, getD, length-append}
 use Rattle.codes.specs.Codes.{kindOf, part, Within, Holds}
 use Rattle.codes.specs.Choice.{chosen}
 use Rattle.codes.proofs.Promises.{lengths, best-choice}
@@ -16,9 +16,10 @@ use Rattle.tree.proofs.Promises.{stored-levels}
 use Rattle.strip.specs.Layout.{header, partsStart, endAfter}
 use Rattle.strip.specs.Image.{valuesAt, codeFor, partFor, lengthFor, planned, entryFor, joined, stripOf}
 use Rattle.tree.specs.Buffers.{replaced}
+use Rattle.strip.specs.Calls.{atFront}
 use Rattle.strip.specs.Written.{entryIn}
 use Rattle.strip.proofs.Layouts.{At, laid-end, laid-at, laid-pins}
-use Rattle.tree.proofs.Buffers.{replaced-more}
+use Rattle.tree.proofs.Buffers.{replaced-more, replaced-front}
 use Rattle.strip.proofs.Pieces.{length-joined, joined-same, joined-room}
 
 pub level-next : (values : List ℕ) (d : ℕ) → levelValues values (d + 1) ≡ valuesAt values d
@@ -124,7 +125,7 @@ module _ (values : List ℕ) (few : length values < 2 ^ 16) (levels : Levels) (e
   -- header, entries and parts, written one after the other, are the strip
   pub strip-written : (out : List ℕ) → length (stripOf values) ≤ length out
       → replaced (replaced (replaced out 0 (header (levels .pins))) 7 (joined (entryIn levels) (height (levels .pins)))) (partsStart (levels .pins)) (joined (partFor values) (height (levels .pins)))
-      ≡ stripOf values ++ drop (length (stripOf values)) out
+      ≡ atFront (stripOf values) out
   unfolding stripOf
   strip-written out room =
       let n = length values in
@@ -137,4 +138,4 @@ module _ (values : List ℕ) (few : length values < 2 ^ 16) (levels : Levels) (e
       rw (pins, same)
       (ap (λ (o : List ℕ). replaced o (partsStart n) parts) (replaced-more out 0 7 (header n) entries refl (omega arith))
       ∙ replaced-more out 0 (partsStart n) (header n ++ entries) parts (rw (length-append (header n) entries) (omega (arith, five))) (omega arith)
-      ∙ ap (λ (k : ℕ). header n ++ entries ++ parts ++ drop k out) (zero-add (length (header n ++ entries ++ parts))))
+      ∙ replaced-front out (header n ++ entries ++ parts))

@@ -3,17 +3,15 @@ use mathlib.Core.Path.{_≡_}
 use mathlib.Core.Bool.{true, false}
 use mathlib.Core.List.{List, []}
 use Prim.Native.Nat.{ℕ}
-use native.Mathlib.Nat.{zero-add}
 use lib.ListN.{length}
 use borrow.Author.Tests.{eq-eqb, ne-eqb}
 use Rattle.tree.specs.declared.nodes.Levels.{Levels}
 use Rattle.tree.specs.Lists.{ordered}
 use Rattle.tree.specs.Walks.{stopped}
 use Rattle.tree.specs.Sweeps.{sweep}
-use Rattle.tree.specs.Buffers.{replaced}
 use Rattle.strip.specs.Lists.{firstLower}
 use Rattle.strip.specs.Outcomes.{verdict}
-use Rattle.strip.specs.Calls.{atFront, timesIn, sweepIn}
+use Rattle.strip.specs.Calls.{timesIn, sweepIn}
 
 module _ (s ts : List ℕ) (room : ℕ) (levels : Levels) where
   pub lengths-differ : (room ≡ length ts → ⊥) → sweepIn s ts room levels ≡ record { positions = []; answer = stopped 15 0 }
@@ -27,7 +25,3 @@ module _ (s ts : List ℕ) (room : ℕ) (levels : Levels) where
   pub targets-follow : room ≡ length ts → ordered ts ≡ true → sweepIn s ts room levels ≡ sweep (levels .pins) (timesIn levels s) ts
   unfolding verdict
   targets-follow e o = rw (eq-eqb room (length ts) e, o)
-
--- entries from entry 0 on
-pub replaced-front : (out entries : List ℕ) → replaced out 0 entries ≡ atFront entries out
-replaced-front out entries = rw (zero-add (length entries))

@@ -2,10 +2,10 @@
 -- proofs/Demands proves demand 2 as `demand-2` and demand 3 as `demand-3`.
 use mathlib.Core.Path.{_≡_}
 use mathlib.Core.Logic.{_↔_}
-use mathlib.Core.List.{List, _++_}
+use mathlib.Core.List.{List}
 use Prim.Native.Nat.{ℕ, _*_, _≤_, _<_}
 use lib.Dec.{T}
-use lib.ListN.{length, drop, getD}
+use lib.ListN.{length, getD}
 use Rattle.codes.specs.Codes.{kindOf, Within, Holds}
 use Rattle.codes.specs.Choice.{size}
 use Rattle.tree.specs.declared.nodes.Levels.{Levels}
@@ -22,16 +22,16 @@ use Rattle.strip.specs.declared.strip.Swept.the-variants as sweeping
 use Rattle.strip.specs.Outcomes.{gives}
 use Rattle.strip.specs.Image.{image}
 use Rattle.strip.specs.Opening.{opening}
-use Rattle.strip.specs.Calls.{packAnswer, packOutput, searchOf, sweepOf, sweepOutput, swept, checkOf, checked, plainList, unpackOf, unpackOutput}
+use Rattle.strip.specs.Calls.{packAnswer, atFront, packOutput, searchOf, sweepOf, sweepOutput, swept, checkOf, checked, plainList, unpackOf, unpackOutput}
 use Rattle.strip.specs.Promises.{Packable}
 
 -- A list packs to a strip in an output: pack gives the strip's length and leaves the strip at the front, with the later bytes as they were.
 abbrev pub PacksTo : List ℕ → List ℕ → List ℕ → Type 0
-PacksTo xs s out = (packAnswer xs (length out) ≡ gives (length s)) × (packOutput xs out ≡ s ++ drop (length s) out)
+PacksTo xs s out = (packAnswer xs (length out) ≡ gives (length s)) × (packOutput xs out ≡ atFront s out)
 
 -- a strip unpacks to a list, in the same way
 abbrev pub UnpacksTo : List ℕ → List ℕ → List ℕ → Type 0
-UnpacksTo s xs out = (unpackOf s (length out) ≡ gives (length xs)) × (unpackOutput s out ≡ xs ++ drop (length xs) out)
+UnpacksTo s xs out = (unpackOf s (length out) ≡ gives (length xs)) × (unpackOutput s out ≡ atFront xs out)
 
 -- Each level of a strip holds what the list's tree stores on it, in the code with fewest bits among all that can hold it.
 pub record FewestBits (xs s : List ℕ) (levels : Levels) : Type 0 where
@@ -73,28 +73,28 @@ pub record Demand2 : Type 0 where
 
 -- ---- demand 3
 
--- A sweep of a strip by these targets, with these answers lent, that is not refused: it carries `nodes`.
-pub record SweepsAs (s ts answers : List ℕ) (nodes : ℕ) : Type 0 where
-  pub sweep : sweepOf s ts (length answers) .answer ≡ found 0 nodes
-  -- at every index neither is a search of the target refused, and its position is the sweep's: the number of smaller times
-  pub searches : (i : ℕ) → i < length ts
-      → searchOf s (getD ts i 0) ≡ found (getD (sweepOutput s ts answers) i 0) (length (path (plainList s) (getD ts i 0)))
-  pub positions : (i : ℕ) → i < length ts → getD (sweepOutput s ts answers) i 0 ≡ smaller (getD ts i 0) (plainList s)
+-- A sweep of a strip by these targets that is not refused, carries `nodes` and leaves the answers `after`.
+pub record SweepsAs (s ts : List ℕ) (nodes : ℕ) (after : List ℕ) : Type 0 where
+  -- at every index a search of the target is not refused either, and gives the sweep's position
+  pub searches : (i : ℕ) → i < length ts → searchOf s (getD ts i 0) ≡ found (getD after i 0) (length (path (plainList s) (getD ts i 0)))
+  -- which is the number of smaller times
+  pub positions : (i : ℕ) → i < length ts → getD after i 0 ≡ smaller (getD ts i 0) (plainList s)
   -- there is nothing else in the answers
-  pub count : length (sweepOutput s ts answers) ≡ length ts
+  pub count : length after ≡ length ts
   -- the nodes are the different ones on the paths of those searches
   pub different-nodes : nodes ≡ different (plainList s) ts
   pub at-most-pins : nodes ≤ length (plainList s)
-  pub at-most-paths : nodes ≤ length ts * height (length (plainList s))
+  pub at-most-heights : nodes ≤ length ts * height (length (plainList s))
 
 -- by an answer of the code
-abbrev pub CodeSweepsAs : List ℕ → List ℕ → List ℕ → Swept → Type 0
-CodeSweepsAs s ts answers (sweeping.Nodes k) = SweepsAs s ts answers k
-CodeSweepsAs s ts answers (sweeping.Refused r) = ⊥
+abbrev pub CodeSweepsAs : List ℕ → List ℕ → Swept → List ℕ → Type 0
+CodeSweepsAs s ts (sweeping.Nodes k) after = SweepsAs s ts k after
+CodeSweepsAs s ts (sweeping.Refused r) after = ⊥
 
 -- an accepted strip, targets none of which is less than the one before, and as many answers
 pub record Demand3 : Type 0 where
-  pub sweeps : (s ts answers : List ℕ) → Accepted s → T (ordered ts) → length answers ≡ length ts → SweepsAs s ts answers (different (plainList s) ts)
-  -- and so does the code: any answer that meets the contract of `Strip::sweep`
-  pub code-sweeps : (s ts answers : List ℕ) (r : Swept) → swept r ≡ sweepOf s ts (length answers) .answer
-      → Accepted s → T (ordered ts) → length answers ≡ length ts → CodeSweepsAs s ts answers r
+  pub sweeps : (s ts answers : List ℕ) → Accepted s → T (ordered ts) → length answers ≡ length ts
+      → (nodes : ℕ) × (sweepOf s ts (length answers) .answer ≡ found 0 nodes) × SweepsAs s ts nodes (sweepOutput s ts answers)
+  -- and so does the code: any answer, with the answers left, that meets the contract of `Strip::sweep`
+  pub code-sweeps : (s ts answers : List ℕ) → Accepted s → T (ordered ts) → length answers ≡ length ts
+      → (r : Swept) (after : List ℕ) → swept r ≡ sweepOf s ts (length answers) .answer → after ≡ sweepOutput s ts answers → CodeSweepsAs s ts r after

@@ -55,6 +55,10 @@ wasteful = header 1 ++ entry 65 1 ++ (0x00 ∷ [])
 abbrev high : List ℕ
 high = header 3 ++ entry 3 1 ++ entry 32 8 ++ (0xa0 ∷ 0 ∷ 0 ∷ 0 ∷ 0 ∷ 255 ∷ 255 ∷ 255 ∷ 255 ∷ [])
 
+-- the same, with level 2 ending before node 3's value
+abbrev cut : List ℕ
+cut = header 3 ++ entry 3 1 ++ entry 32 4 ++ (0xa0 ∷ 0 ∷ 0 ∷ 0 ∷ 0 ∷ [])
+
 pub data Case : Type 0 where
   -- the list, the output lent, the answer, and the output after it
   packs : List ℕ → List ℕ → Outcome ℕ → List ℕ → Case
@@ -105,8 +109,9 @@ marked =
     -- of 15 and 16, both after opening
     ∷ sweeps a (1 ∷ 2 ∷ []) (replicate 3 7) (stopped 15 0) (replicate 3 7) ∷ sweeps a (9 ∷ 8 ∷ []) (replicate 2 7) (stopped 16 1) (replicate 2 7)
     ∷ sweeps (take 3 b) (9 ∷ 8 ∷ []) (7 ∷ []) (stopped 5 0) (7 ∷ []) ∷ sweeps a (9 ∷ 8 ∷ []) (7 ∷ []) (stopped 15 0) (7 ∷ [])
-    -- a sweep met by 10 has written the answers before it
-    ∷ sweeps high (5 ∷ 6 ∷ 7 ∷ []) (replicate 3 7) (stopped 10 3) (0 ∷ 7 ∷ 7 ∷ [])
+    -- a sweep met by 9 or 10 has written the answers before it, and one by no targets opens no node
+    ∷ sweeps cut (5 ∷ 6 ∷ 7 ∷ []) (replicate 3 7) (stopped 9 3) (0 ∷ 7 ∷ 7 ∷ []) ∷ sweeps high (5 ∷ 6 ∷ 7 ∷ []) (replicate 3 7) (stopped 10 3) (0 ∷ 7 ∷ 7 ∷ [])
+    ∷ sweeps (set b 7 1) [] [] (found 0 0) []
     -- opening's own 1 and second 5; two faults at once, of which the first tested is told; no refusal but opening's at the greatest time
     ∷ searches (set b 6 0) 0 (stopped 1 0) ∷ searches (set b 6 5) 0 (stopped 5 0)
     ∷ searches (set (set b 4 2) 6 0) 0 (stopped 7 0) ∷ searches (set b 7 33 ++ (0 ∷ [])) 0 (stopped 8 1)

@@ -5,8 +5,9 @@ use lib.ListN.{length}
 use Rattle.tree.specs.Walks.{stopped}
 use Rattle.tree.specs.Sweeps.{sweep, swept}
 use Rattle.strip.specs.Calls.{timesIn}
+use Rattle.tree.proofs.Buffers.{replaced-front}
 use Rattle.strip.proofs.Gaps.{not-ordered, is-ordered}
-use Rattle.strip.proofs.Sweeps.{lengths-differ, targets-fall, targets-follow, replaced-front}
+use Rattle.strip.proofs.Sweeps.{lengths-differ, targets-fall, targets-follow}
 use borrow.Author.Needs.{needs}
 use Rattle.strip.proofs.sweeping.sweep_open.Statement.{statement}
 use Rattle.strip.proofs.sweeping.sweep_open.Tie as tie
