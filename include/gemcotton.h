@@ -80,7 +80,7 @@ struct gemcotton_answer gemcotton_up_to(const uint8_t *strip, size_t strip_lengt
  * opened in all. On a strip that some list packs to, each position is what a search for the target gives, and the nodes are the
  * different ones that those searches open. No targets open no node. The first target goes as a search does, and the nodes left by
  * their left side are remembered. Each later one drops remembered nodes from the deepest up while their time is below it, and goes
- * on from the right child of the last dropped, if any. Its position is that of the deepest remembered node, or the pin count.
+ * on from the right child of the last dropped, if any. A target's position is that of the deepest node then remembered, or the pin count.
  * Refused after opening with 15, then 16, with nothing written. A node with 9 or 10 ends the sweep: the answers of the targets
  * before the one that comes to it have been written, and no others. */
 struct gemcotton_answer gemcotton_sweep(uint32_t *answers, size_t answers_length, const uint8_t *strip, size_t strip_length,

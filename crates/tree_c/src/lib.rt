@@ -1,4 +1,4 @@
-// The tree for programs in other languages: each function of `tree`, on numbers and slices.
+// The tree for programs in other languages: height, root place, rank, construction, access and search, on numbers and slices.
 ghost use mathlib.Core.Path.{_≡_};
 ghost use mathlib.Core.List.{[], _∷_, _++_};
 ghost use Prim.Native.Nat.{_<_, _≤_};

@@ -401,8 +401,8 @@ pub fn up_to(strip: &[u8], time: u32) -> Result<UpTo, Refusal> {
 /// That is said of a strip that some list packs to. On any other too, the first target goes as a
 /// search does, and the nodes left by their left side are remembered. Each later target drops
 /// remembered nodes from the deepest up while their time is below it, and goes on from the right
-/// child of the last dropped, if any. The position is that of the deepest remembered node, or the
-/// pin count.
+/// child of the last dropped, if any. A target's position is that of the deepest node then
+/// remembered, or the pin count.
 ///
 /// Refused, with nothing written, as in [opening](crate#opening), then by
 /// [`Answers`](Refusal::Answers), then by [`TargetsFall`](Refusal::TargetsFall). Then refused by
