@@ -166,7 +166,7 @@ impl Strip {
         }
     }
 
-    // Writes the position of each target, none less than the one before, and opens no node twice.
+    // Looks targets up, none less than the one before, in one walk, and writes the position of each.
     pub fn sweep(answers: &mut [u32], s: &[u8], targets: &[u32]) -> Swept
         ensures { λ r. ⌜ swept r ≡ sweepOf (now (s .entry)) (now (targets .entry)) (length (now (answers .entry))) .answer ⌝ }
         ensures { λ r. ⌜ now (answers .exit) ≡ sweepOutput (now (s .entry)) (now (targets .entry)) (now (answers .entry)) ⌝ }

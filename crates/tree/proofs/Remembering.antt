@@ -118,72 +118,73 @@ module _ (levels : Levels) (s : List ℕ) where
     few = omega arith;
   }
 
-  -- ---- one step down
+-- ---- one step down
 
-  module _ {w : Remembered} {v depth : ℕ} {here : Stretch} {above k : ℕ} (st : Stands levels s v depth here above) (r : Resumes levels s w v here k) (l : v ≤ n) (f : Fits levels s) where
-    pub room : w .count < 16
-    room = omega (arith, r .deep, height-mono v n l, f .height-fits)
+module _ {levels : Levels} {s : List ℕ} {w : Remembered} {v depth : ℕ} {here : Stretch} {above k : ℕ} (st : Stands levels s v depth here above)
+    (r : Resumes levels s w v here k) (l : v ≤ levels .pins) (f : Fits levels s) where
+  pub room : w .count < 16
+  room = omega (arith, r .deep, height-mono v (levels .pins) l, f .height-fits)
 
-    node-added : getD (set (w .nodes) (w .count) v) (w .count) 0 ≡ v
-    node-added = getD-set-same (w .nodes) (w .count) v 0 (rw (r .keeps .nodes-size) room)
+  node-added : getD (set (w .nodes) (w .count) v) (w .count) 0 ≡ v
+  node-added = getD-set-same (w .nodes) (w .count) v 0 (rw (r .keeps .nodes-size) room)
 
-    rank-added : getD (set (w .ranks) (w .count) (rank n v)) (w .count) 0 ≡ rank n v
-    rank-added = getD-set-same (w .ranks) (w .count) (rank n v) 0 (rw (r .keeps .ranks-size) room)
+  rank-added : getD (set (w .ranks) (w .count) (rank (levels .pins) v)) (w .count) 0 ≡ rank (levels .pins) v
+  rank-added = getD-set-same (w .ranks) (w .count) (rank (levels .pins) v) 0 (rw (r .keeps .ranks-size) room)
 
-    resumes-right : Resumes levels s w (childOf true v) (sideOf true here) (k + 1)
-    resumes-right =
-        let p = stands-place st l in
-        record {
-          keeps = r .keeps;
-          ends = omega (arith, r .ends);
-          deep = rw (height-child true v (st .one)) (omega (arith, r .deep));
-          few = omega (arith, r .few);
-        }
+  resumes-right : Resumes levels s w (childOf true v) (sideOf true here) (k + 1)
+  resumes-right =
+      let p = stands-place st l in
+      record {
+        keeps = r .keeps;
+        ends = omega (arith, r .ends);
+        deep = rw (height-child true v (st .one)) (omega (arith, r .deep));
+        few = omega (arith, r .few);
+      }
 
-    resumes-left : (x : ℕ) → nodeTime (fetchedAt levels s) v ≡ at x → Resumes levels s (withNode w v x) (childOf false v) (sideOf false here) (k + 1)
-    resumes-left x e =
-        let p = stands-place st l in
-        let c = w .count in
-        let rank-here = stands-rank st in
-        let last : Entry levels s (withNode w v x .nodes) (withNode w v x .times) (withNode w v x .ranks) c = record {
-          one = rw node-added (st .one);
-          among = rw node-added l;
-          time = rw (node-added, getD-set-same (w .times) c x 0 (rw (r .keeps .times-size) room)) e;
-          ranked = rw (node-added, rank-added);
-          ends = rw (node-added, position-set (w .ranks) c c (rank n v) n (le-refl c), st .under) (r .ends);
-          deep = rw node-added (r .deep);
-        } in
-        record {
-          keeps = record {
-            nodes-size = length-set (w .nodes) c v ∙ r .keeps .nodes-size;
-            times-size = length-set (w .times) c x ∙ r .keeps .times-size;
-            ranks-size = length-set (w .ranks) c (rank n v) ∙ r .keeps .ranks-size;
-            entry = λ i h. elim (decLt i c) [
-              | yes y ↦ entry-before w v x i y (r .keeps .entry i y)
-              | no y ↦ let q : c ≡ i = omega arith in subst (Entry levels s (withNode w v x .nodes) (withNode w v x .times) (withNode w v x .ranks)) q last
-            ];
-          };
-          ends = rw rank-added (omega (arith, rank-here));
-          deep = rw (height-child false v (st .one)) (omega (arith, r .deep));
-          few = omega (arith, r .few);
-        }
+  resumes-left : (x : ℕ) → nodeTime (fetchedAt levels s) v ≡ at x → Resumes levels s (withNode levels s w v x) (childOf false v) (sideOf false here) (k + 1)
+  resumes-left x e =
+      let p = stands-place st l in
+      let c = w .count in
+      let rank-here = stands-rank st in
+      let last : Entry levels s (withNode levels s w v x .nodes) (withNode levels s w v x .times) (withNode levels s w v x .ranks) c = record {
+        one = rw node-added (st .one);
+        among = rw node-added l;
+        time = rw (node-added, getD-set-same (w .times) c x 0 (rw (r .keeps .times-size) room)) e;
+        ranked = rw (node-added, rank-added);
+        ends = rw (node-added, position-set (w .ranks) c c (rank (levels .pins) v) (levels .pins) (le-refl c), st .under) (r .ends);
+        deep = rw node-added (r .deep);
+      } in
+      record {
+        keeps = record {
+          nodes-size = length-set (w .nodes) c v ∙ r .keeps .nodes-size;
+          times-size = length-set (w .times) c x ∙ r .keeps .times-size;
+          ranks-size = length-set (w .ranks) c (rank (levels .pins) v) ∙ r .keeps .ranks-size;
+          entry = λ i h. elim (decLt i c) [
+            | yes y ↦ entry-before levels s w v x i y (r .keeps .entry i y)
+            | no y ↦ let q : c ≡ i = omega arith in subst (Entry levels s (withNode levels s w v x .nodes) (withNode levels s w v x .times) (withNode levels s w v x .ranks)) q last
+          ];
+        };
+        ends = rw rank-added (omega (arith, rank-here));
+        deep = rw (height-child false v (st .one)) (omega (arith, r .deep));
+        few = omega (arith, r .few);
+      }
 
-    -- what is remembered after a step past a node with time x, for target t
-    abbrev pub after : ℕ → ℕ → Remembered
-    after x t = cond (ltb x t) w (withNode w v x)
+  -- what is remembered after a step past a node with time x, for target t
+  abbrev pub after : ℕ → ℕ → Remembered
+  after x t = cond (ltb x t) w (withNode levels s w v x)
 
-    pub resumes-child : (x t : ℕ) → nodeTime (fetchedAt levels s) v ≡ at x
-        → Resumes levels s (after x t) (childOf (ltb x t) v) (sideOf (ltb x t) here) (k + 1)
-    resumes-child x t e = go (ltb x t)
-      where
-        go : (b : Bool) → Resumes levels s (cond b w (withNode w v x)) (childOf b v) (sideOf b here) (k + 1)
-        go true = resumes-right
-        go false = resumes-left x e
+  pub resumes-child : (x t : ℕ) → nodeTime (fetchedAt levels s) v ≡ at x
+      → Resumes levels s (after x t) (childOf (ltb x t) v) (sideOf (ltb x t) here) (k + 1)
+  resumes-child x t e = go (ltb x t)
+    where
+      go : (b : Bool) → Resumes levels s (cond b w (withNode levels s w v x)) (childOf b v) (sideOf b here) (k + 1)
+      go true = resumes-right
+      go false = resumes-left x e
 
-    pub kept-child : (x t : ℕ) → keptIn (after x t) ≡ cond (ltb x t) (keptIn w) (v ∷ keptIn w)
-    unfolding entries
-    kept-child x t = go (ltb x t)
-      where
-        go : (b : Bool) → keptIn (cond b w (withNode w v x)) ≡ cond b (keptIn w) (v ∷ keptIn w)
-        go true = refl
-        go false = rw (node-added, entries-set (w .nodes) (w .count) (w .count) v (le-refl (w .count)))
+  pub kept-child : (x t : ℕ) → keptIn (after x t) ≡ cond (ltb x t) (keptIn w) (v ∷ keptIn w)
+  unfolding entries
+  kept-child x t = go (ltb x t)
+    where
+      go : (b : Bool) → keptIn (cond b w (withNode levels s w v x)) ≡ cond b (keptIn w) (v ∷ keptIn w)
+      go true = refl
+      go false = rw (node-added, entries-set (w .nodes) (w .count) (w .count) v (le-refl (w .count)))

@@ -68,16 +68,16 @@ root-place-requires : tie.Need-root-place-requires Inv-loop μ-loop
 root-place-requires c κs = tt
 
 mul-kept : tie.Need-mul-kept Inv-loop μ-loop
-mul-kept c = let l = c .before .before .before .before .before .before .before .before .before .before .before .before .loop in omega (arith, room (c .before .before .before .before .before .before .before .before .before .before .before .before .before .before .before .args .t2) (c .before .before .before .before .before .before .before .before .before .before .before .before .before .before .before .args .s .now) (l .inv .0) (l .inv .1) (omega arith) (c .before .before .before .before .before .before .before .before .before .before .before .before .before .before .before .pre .0))
+mul-kept c = let l = c .before .before .before .before .before .before .before .before .before .before .before .before .loop in omega (arith, room (l .inv .0) (l .inv .1) (omega arith) (c .before .before .before .before .before .before .before .before .before .before .before .before .before .before .before .pre .0))
 
 element-write-kept : tie.Need-element-write-kept Inv-loop μ-loop
-element-write-kept c = let l = c .before .before .before .before .before .before .before .before .before .before .before .before .loop in room (c .before .before .before .before .before .before .before .before .before .before .before .before .before .before .before .args .t2) (c .before .before .before .before .before .before .before .before .before .before .before .before .before .before .before .args .s .now) (l .inv .0) (l .inv .1) (omega arith) (c .before .before .before .before .before .before .before .before .before .before .before .before .before .before .before .pre .0)
+element-write-kept c = let l = c .before .before .before .before .before .before .before .before .before .before .before .before .loop in room (l .inv .0) (l .inv .1) (omega arith) (c .before .before .before .before .before .before .before .before .before .before .before .before .before .before .before .pre .0)
 
 mul-kept-2 : tie.Need-mul-kept-2 Inv-loop μ-loop
-mul-kept-2 c = let l = c .before .before .before .before .before .before .before .before .before .before .before .before .loop in omega (arith, room (c .before .before .before .before .before .before .before .before .before .before .before .before .before .before .before .args .t2) (c .before .before .before .before .before .before .before .before .before .before .before .before .before .before .before .args .s .now) (l .inv .0) (l .inv .1) (omega arith) (c .before .before .before .before .before .before .before .before .before .before .before .before .before .before .before .pre .0))
+mul-kept-2 c = let l = c .before .before .before .before .before .before .before .before .before .before .before .before .loop in omega (arith, room (l .inv .0) (l .inv .1) (omega arith) (c .before .before .before .before .before .before .before .before .before .before .before .before .before .before .before .pre .0))
 
 element-write-kept-2 : tie.Need-element-write-kept-2 Inv-loop μ-loop
-element-write-kept-2 c = let l = c .before .before .before .before .before .before .before .before .before .before .before .before .loop in room (c .before .before .before .before .before .before .before .before .before .before .before .before .before .before .before .args .t2) (c .before .before .before .before .before .before .before .before .before .before .before .before .before .before .before .args .s .now) (l .inv .0) (l .inv .1) (omega arith) (c .before .before .before .before .before .before .before .before .before .before .before .before .before .before .before .pre .0)
+element-write-kept-2 c = let l = c .before .before .before .before .before .before .before .before .before .before .before .before .loop in room (l .inv .0) (l .inv .1) (omega arith) (c .before .before .before .before .before .before .before .before .before .before .before .before .before .before .before .pre .0)
 
 add-kept : tie.Need-add-kept Inv-loop μ-loop
 add-kept c =
@@ -90,13 +90,13 @@ sub-kept c =
     omega (arith, stands-place w (omega arith), w .inside)
 
 mul-kept-3 : tie.Need-mul-kept-3 Inv-loop μ-loop
-mul-kept-3 c = let l = c .before .before .before .before .before .before .before .before .before .before .before .before .before .loop in omega (arith, room (c .before .before .before .before .before .before .before .before .before .before .before .before .before .before .before .before .args .t2) (c .before .before .before .before .before .before .before .before .before .before .before .before .before .before .before .before .args .s .now) (l .inv .0) (l .inv .1) (omega arith) (c .before .before .before .before .before .before .before .before .before .before .before .before .before .before .before .before .pre .0))
+mul-kept-3 c = let l = c .before .before .before .before .before .before .before .before .before .before .before .before .before .loop in omega (arith, room (l .inv .0) (l .inv .1) (omega arith) (c .before .before .before .before .before .before .before .before .before .before .before .before .before .before .before .before .pre .0))
 
 element-write-kept-3 : tie.Need-element-write-kept-3 Inv-loop μ-loop
-element-write-kept-3 c = let l = c .before .before .before .before .before .before .before .before .before .before .before .before .before .loop in room (c .before .before .before .before .before .before .before .before .before .before .before .before .before .before .before .before .args .t2) (c .before .before .before .before .before .before .before .before .before .before .before .before .before .before .before .before .args .s .now) (l .inv .0) (l .inv .1) (omega arith) (c .before .before .before .before .before .before .before .before .before .before .before .before .before .before .before .before .pre .0)
+element-write-kept-3 c = let l = c .before .before .before .before .before .before .before .before .before .before .before .before .before .loop in room (l .inv .0) (l .inv .1) (omega arith) (c .before .before .before .before .before .before .before .before .before .before .before .before .before .before .before .before .pre .0)
 
 add-kept-2 : tie.Need-add-kept-2 Inv-loop μ-loop
-add-kept-2 c = let l = c .before .before .before .before .before .before .before .before .before .before .before .before .before .loop in omega (arith, room (c .before .before .before .before .before .before .before .before .before .before .before .before .before .before .before .before .args .t2) (c .before .before .before .before .before .before .before .before .before .before .before .before .before .before .before .before .args .s .now) (l .inv .0) (l .inv .1) (omega arith) (c .before .before .before .before .before .before .before .before .before .before .before .before .before .before .before .before .pre .0))
+add-kept-2 c = let l = c .before .before .before .before .before .before .before .before .before .before .before .before .before .loop in omega (arith, room (l .inv .0) (l .inv .1) (omega arith) (c .before .before .before .before .before .before .before .before .before .before .before .before .before .before .before .before .pre .0))
 
 side-of-requires : tie.Need-side-of-requires Inv-loop μ-loop
 side-of-requires c κs =
@@ -131,10 +131,10 @@ loop-again c =
     (c .before .before .if1 .came) in
     rw (c .child-of .ensures, c .before .side-of .ensures, p) (
       stands-child (l .inv .0) (ltb x t) x (omega arith) e,
-      resumes-child (a .t2) (a .s .now) (l .inv .0) (l .inv .1) (omega arith) (c .before .before .before .before .before .before .before .before .before .before .before .before .before .before .before .before .before .pre .0) x t e,
-      ap (λ (k : List ℕ). targetFrom n read t k (l .nodes + 1) (childOf (ltb x t) (l .v))) (kept-child (a .t2) (a .s .now) (l .inv .0) (l .inv .1) (omega arith) (c .before .before .before .before .before .before .before .before .before .before .before .before .before .before .before .before .before .pre .0) x t)
+      resumes-child (l .inv .0) (l .inv .1) (omega arith) (c .before .before .before .before .before .before .before .before .before .before .before .before .before .before .before .before .before .pre .0) x t e,
+      ap (λ (k : List ℕ). targetFrom n read t k (l .nodes + 1) (childOf (ltb x t) (l .v))) (kept-child (l .inv .0) (l .inv .1) (omega arith) (c .before .before .before .before .before .before .before .before .before .before .before .before .before .before .before .before .before .pre .0) x t)
           ∙ sym (target-step n read t (keptIn (l .kept)) (l .v) x (l .inv .0 .one) (omega arith) e (l .nodes)) ∙ l .inv .2,
-      ap (λ (k : List ℕ). keptFrom n read t k (childOf (ltb x t) (l .v))) (kept-child (a .t2) (a .s .now) (l .inv .0) (l .inv .1) (omega arith) (c .before .before .before .before .before .before .before .before .before .before .before .before .before .before .before .before .before .pre .0) x t)
+      ap (λ (k : List ℕ). keptFrom n read t k (childOf (ltb x t) (l .v))) (kept-child (l .inv .0) (l .inv .1) (omega arith) (c .before .before .before .before .before .before .before .before .before .before .before .before .before .before .before .before .before .pre .0) x t)
           ∙ sym (kept-step n read t (keptIn (l .kept)) (l .v) x (l .inv .0 .one) (omega arith) e) ∙ l .inv .3,
     )
 
