@@ -15,8 +15,9 @@ use Rattle.codes.specs.declared.kinds.Kind.{Kind}
 use Rattle.codes.specs.declared.kinds.Kind.the-variants.{Fixed, Chunked, Refused}
 use Rattle.codes.specs.Codes.{kindOf, kindBits, chunked, Within, Holds}
 use Rattle.codes.specs.Choice.{widest, size, offer, better, bestChunked, chosen}
+use Rattle.codes.specs.Promises.{Known}
 use Rattle.codes.proofs.Bits.{length-fixed}
-use Rattle.codes.proofs.CodeByte.{kind-fixed, kind-chunked, Known, kind-known}
+use Rattle.codes.proofs.CodeByte.{kind-fixed, kind-chunked, kind-known}
 use Rattle.codes.proofs.Widths.{widest-holds, widest-least, widest-le}
 
 -- ---- sizes

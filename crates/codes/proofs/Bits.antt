@@ -6,39 +6,38 @@ use native.Mathlib.Nat.{not-suc-le-zero, le-of-suc-le-suc, mod-eq-of-lt, mod-one
 use native.Mathlib.Numerals.{one-add}
 use native.Mathlib.Omega.{arith}
 use lib.ListN.{length, take, drop, getD, replicate, length-append, length-take, length-drop, take-append-drop}
-use lib.Seq.{take-at, drop-at, length-take-le, take-add, drop-drop}
+use lib.Seq.{take-at, drop-at, length-take-le, take-add, drop-drop, getD-drop}
 use lib.Pow.{pow-pos, pow-add, pow-mono, mod-pow-add, high, low, split, shr-shr}
 use lib.Arith.{digits-lt}
 use Rattle.codes.specs.Bits.{bits, number, sum, fixed, bytesOf, bytesFor, padded}
+use Rattle.codes.specs.Codes.{Within}
 
--- every element is 0 or 1
-abbrev pub Bits : List ℕ → Type 0
-Bits [] = Unit {0}
-Bits (b ∷ bs) = (b < 2) × Bits bs
+-- ---- elements of at most w bits; those of bits have at most one
 
-pub bits-append : (xs ys : List ℕ) → Bits xs → Bits ys → Bits (xs ++ ys)
-bits-append [] ys h k = k
-bits-append (x ∷ xs) ys h k = (h .0, bits-append xs ys (h .1) k)
+pub within-append : (w : ℕ) (xs ys : List ℕ) → Within w xs → Within w ys → Within w (xs ++ ys)
+within-append w [] ys h k j = k j
+within-append w (x ∷ xs) ys h k zero = h 0
+within-append w (x ∷ xs) ys h k (suc j) = within-append w xs ys (λ i. h (suc i)) k j
 
-pub bits-take : (n : ℕ) (xs : List ℕ) → Bits xs → Bits (take n xs)
-bits-take zero xs h = tt
-bits-take (suc n) [] h = tt
-bits-take (suc n) (x ∷ xs) h = (h .0, bits-take n xs (h .1))
+pub within-take : (w n : ℕ) (vs : List ℕ) → Within w vs → Within w (take n vs)
+within-take w zero vs h j = pow-pos w
+within-take w (suc n) [] h j = pow-pos w
+within-take w (suc n) (v ∷ vs) h zero = h 0
+within-take w (suc n) (v ∷ vs) h (suc j) = within-take w n vs (λ i. h (suc i)) j
 
-pub bits-drop : (n : ℕ) (xs : List ℕ) → Bits xs → Bits (drop n xs)
-bits-drop zero xs h = h
-bits-drop (suc n) [] h = tt
-bits-drop (suc n) (x ∷ xs) h = bits-drop n xs (h .1)
+pub within-drop : (w n : ℕ) (vs : List ℕ) → Within w vs → Within w (drop n vs)
+within-drop w n vs h j = rw getD-drop (h (n + j))
 
-bits-bits : (w x : ℕ) → Bits (bits w x)
+bits-bits : (w x : ℕ) → Within 1 (bits w x)
 unfolding bits
-bits-bits zero x = tt
-bits-bits (suc w) x = (omega arith, bits-bits w x)
+bits-bits zero x j = omega arith
+bits-bits (suc w) x zero = omega arith
+bits-bits (suc w) x (suc j) = bits-bits w x j
 
-pub bits-fixed : (w : ℕ) (vs : List ℕ) → Bits (fixed w vs)
+pub bits-fixed : (w : ℕ) (vs : List ℕ) → Within 1 (fixed w vs)
 unfolding fixed
-bits-fixed w [] = tt
-bits-fixed w (v ∷ vs) = bits-append (bits w v) (fixed w vs) (bits-bits w v) (bits-fixed w vs)
+bits-fixed w [] j = omega arith
+bits-fixed w (v ∷ vs) j = within-append 1 (bits w v) (fixed w vs) (bits-bits w v) (bits-fixed w vs) j
 
 -- ---- lengths
 
@@ -64,10 +63,10 @@ unfolding number
 number-append [] ys = omega arith
 number-append (x ∷ xs) ys = simp (number-append xs ys, length-append xs ys, pow-add) (omega arith)
 
-pub number-lt : (bs : List ℕ) → Bits bs → number bs < 2 ^ length bs
+pub number-lt : (bs : List ℕ) {n : ℕ} → Within 1 bs → length bs ≡ n → number bs < 2 ^ n
 unfolding number
-number-lt [] h = omega arith
-number-lt (b ∷ bs) h = rw (← (one-add (length bs)), pow-add) (digits-lt {c = 2 ^ length bs} (h .0) (number-lt bs (h .1)))
+number-lt [] h e = rw (← e) (omega arith)
+number-lt (b ∷ bs) h e = rw (← e, ← (one-add (length bs)), pow-add) (digits-lt {c = 2 ^ length bs} (h 0) (number-lt bs (λ j. h (suc j)) refl))
 
 -- bits w looks only at the w lowest bits
 pub bits-low : (w a x : ℕ) → bits w (a * 2 ^ w + x) ≡ bits w x
@@ -77,11 +76,12 @@ bits-low (suc w) a x =
     let e : a * 2 ^ suc w + x ≡ a * 2 * 2 ^ w + x = rw pow-suc (omega arith) in
     rw (e, mul-add-div-right (pow-pos w) (a * 2) x, mul-add-mod-self-right a 2 (x / 2 ^ w), bits-low w (a * 2) x)
 
-pub bits-number : (bs : List ℕ) → Bits bs → bits (length bs) (number bs) ≡ bs
+pub bits-number : (bs : List ℕ) {n : ℕ} → Within 1 bs → length bs ≡ n → bits n (number bs) ≡ bs
 unfolding bits number
-bits-number [] h = refl
-bits-number (b ∷ bs) h =
-    rw (high b (length bs) (number-lt bs (h .1)), mod-eq-of-lt (h .0), bits-low (length bs) b (number bs), bits-number bs (h .1))
+bits-number [] h e = rw (← e)
+bits-number (b ∷ bs) h e =
+    let t : Within 1 bs = λ j. h (suc j) in
+    rw (← e, high b (length bs) (number-lt bs t refl), mod-eq-of-lt (h 0), bits-low (length bs) b (number bs), bits-number bs t refl)
 
 -- ---- fixed codes
 
@@ -100,7 +100,7 @@ fixed-at w (v ∷ vs) (suc j) pad h =
     let e : suc j * w ≡ w + j * w = omega arith in
     rw (e, append-assoc (bits w v) (fixed w vs) pad, ← (drop-drop (j * w) w (bits w v ++ (fixed w vs ++ pad))), drop-at (bits w v) (fixed w vs ++ pad) w (length-bits w v), fixed-at w vs j pad (le-of-suc-le-suc h))
 
--- the fixed law
+-- value j of a fixed code, as a number
 pub fixed-fetch : (w : ℕ) (vs : List ℕ) (j : ℕ) (pad : List ℕ) → j < length vs → getD vs j 0 < 2 ^ w
     → number (take w (drop (j * w) (fixed w vs ++ pad))) ≡ getD vs j 0
 fixed-fetch w vs j pad h k = rw (fixed-at w vs j pad h, number-bits w (getD vs j 0), mod-eq-of-lt k)
@@ -128,22 +128,21 @@ sum-append (x ∷ xs) ys = omega (arith, sum-append xs ys)
 pub sum-take-add : (n m : ℕ) (bs : List ℕ) → sum (take (n + m) bs) ≡ sum (take n bs) + sum (take m (drop n bs))
 sum-take-add n m bs = rw (take-add n m bs) (sum-append (take n bs) (take m (drop n bs)))
 
-pub sum-le : (bs : List ℕ) (n : ℕ) → Bits bs → sum (take n bs) ≤ n
+pub sum-le : (bs : List ℕ) (n : ℕ) → Within 1 bs → sum (take n bs) ≤ n
 unfolding sum
 sum-le bs zero h = omega arith
 sum-le [] (suc n) h = omega arith
-sum-le (b ∷ bs) (suc n) h = omega (arith, sum-le bs n (h .1))
+sum-le (b ∷ bs) (suc n) h = omega (arith, h 0, sum-le bs n (λ j. h (suc j)))
 
 -- ---- bits to bytes and back
 
-pub bytes-bits : (k : ℕ) (bs : List ℕ) → Bits bs → k * 8 ≤ length bs → fixed 8 (bytesOf k bs) ≡ take (k * 8) bs
+pub bytes-bits : (k : ℕ) (bs : List ℕ) → Within 1 bs → k * 8 ≤ length bs → fixed 8 (bytesOf k bs) ≡ take (k * 8) bs
 unfolding fixed bytesOf
 bytes-bits zero bs h l = refl
 bytes-bits (suc k) bs h l =
     let e : suc k * 8 ≡ 8 + k * 8 = omega arith in
-    let n : length (take 8 bs) ≡ 8 = length-take-le 8 bs (omega arith) in
-    let b : bits 8 (number (take 8 bs)) ≡ take 8 bs = rw n at (bits-number (take 8 bs) (bits-take 8 bs h)) in
-    rw (e, take-add 8 (k * 8) bs, b, bytes-bits k (drop 8 bs) (bits-drop 8 bs h) (simp length-drop (omega arith)))
+    let b = bits-number (take 8 bs) (within-take 1 8 bs h) (length-take-le 8 bs (omega arith)) in
+    rw (e, take-add 8 (k * 8) bs, b, bytes-bits k (drop 8 bs) (within-drop 1 8 bs h) (simp length-drop (omega arith)))
 
 length-bytesOf : (k : ℕ) (bs : List ℕ) → length (bytesOf k bs) ≡ k
 unfolding bytesOf
@@ -156,22 +155,23 @@ length-padded bs = length-bytesOf (bytesFor (length bs)) (bs ++ replicate 7 0)
 
 -- ---- a part of bits, as a number
 
-number-mid : (a m z : List ℕ) → Bits m → Bits z → number (a ++ (m ++ z)) / 2 ^ length z % 2 ^ length m ≡ number m
+number-mid : (a m z : List ℕ) → Within 1 m → Within 1 z → number (a ++ (m ++ z)) / 2 ^ length z % 2 ^ length m ≡ number m
 number-mid a m z hm hz =
     let s : number (a ++ (m ++ z)) ≡ (number a * 2 ^ length m + number m) * 2 ^ length z + number z =
     simp (number-append, length-append, pow-add) (omega arith) in
-    rw (s, high (number a * 2 ^ length m + number m) (length z) (number-lt z hz), low (number a) (length m) (number-lt m hm))
+    rw (s, high (number a * 2 ^ length m + number m) (length z) (number-lt z hz refl), low (number a) (length m) (number-lt m hm refl))
 
-pub number-part : (bs : List ℕ) (p w r : ℕ) → Bits bs → p + w + r ≡ length bs → number (take w (drop p bs)) ≡ number bs / 2 ^ r % 2 ^ w
+pub number-part : (bs : List ℕ) (p w r : ℕ) → Within 1 bs → p + w + r ≡ length bs → number (take w (drop p bs)) ≡ number bs / 2 ^ r % 2 ^ w
 number-part bs p w r h e =
     let d = drop p bs in
+    let hd = within-drop 1 p bs h in
     let lm : length (take w d) ≡ w = length-take-le w d (simp length-drop (omega arith)) in
     let lz : length (drop w d) ≡ r = simp length-drop (omega arith) in
     sym (rw (lm, lz, take-append-drop w d, take-append-drop p bs) at
-    (number-mid (take p bs) (take w d) (drop w d) (bits-take w d (bits-drop p bs h)) (bits-drop w d (bits-drop p bs h))))
+    (number-mid (take p bs) (take w d) (drop w d) (within-take 1 w d hd) (within-drop 1 w d hd)))
 
 -- w bits spell less than 2 ^ w
-pub number-take-lt : (bs : List ℕ) (w : ℕ) → Bits bs → number (take w bs) < 2 ^ w
+pub number-take-lt : (bs : List ℕ) (w : ℕ) → Within 1 bs → number (take w bs) < 2 ^ w
 number-take-lt bs w h =
     let l : length (take w bs) ≤ w = simp length-take (omega arith) in
-    lt-of-lt-of-le (number-lt (take w bs) (bits-take w bs h)) (pow-mono l)
+    lt-of-lt-of-le (number-lt (take w bs) (within-take 1 w bs h) refl) (pow-mono l)

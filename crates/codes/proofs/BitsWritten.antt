@@ -135,7 +135,7 @@ padded-last xs n a h l k =
 -- ---- a whole part
 
 -- the writer at the front
-abbrev pub front : Writer
+abbrev front : Writer
 front = record { at = 0; have = 0; acc = 0 }
 
 -- bits have room where their bytes do

@@ -1,13 +1,13 @@
--- What a code byte says.
+-- A code byte is fixed up to 32, chunked from 65 to 72, and refused otherwise.
 use mathlib.Core.Path.{_≡_, refl}
 use mathlib.Core.Bool.{Bool, true, false, cond}
-use Prim.Native.Nat.{ℕ, _+_, _-_, _≤_, _<_}
+use Prim.Native.Nat.{ℕ, _-_, _≤_, _<_}
 use native.Mathlib.Omega.{arith}
 use lib.Dec.{ltb}
 use borrow.Author.Tests.{le-ltb, lt-ltb, ltb-true, ltb-false}
-use Rattle.codes.specs.declared.kinds.Kind.{Kind}
 use Rattle.codes.specs.declared.kinds.Kind.the-variants.{Fixed, Chunked, Refused}
 use Rattle.codes.specs.Codes.{kindOf}
+use Rattle.codes.specs.Promises.{Known, CodeKnown}
 
 pub kind-fixed : (code : ℕ) → code < 33 → kindOf code ≡ Fixed code
 unfolding kindOf
@@ -25,12 +25,6 @@ pub kind-above : (code : ℕ) → 73 ≤ code → kindOf code ≡ Refused
 unfolding kindOf
 kind-above code l = rw (le-ltb code 33 (omega arith), le-ltb code 65 (omega arith), le-ltb code 73 l)
 
--- the widths and chunks that codes have, with the code's number
-abbrev pub Known : Kind → ℕ → Type 0
-Known (Fixed w) code = (w ≤ 32) × (w ≡ code)
-Known (Chunked b) code = (1 ≤ b) × (b ≤ 8) × (64 + b ≡ code)
-Known Refused code = Unit {0}
-
 pub kind-known : (code : ℕ) → Known (kindOf code) code
 unfolding kindOf
 kind-known code = go (ltb code 33) (ltb code 65) (ltb code 73) refl refl refl
@@ -41,3 +35,7 @@ kind-known code = go (ltb code 33) (ltb code 65) (ltb code 73) refl refl refl
     go false true u p q r = tt
     go false false true p q r = let l = ltb-false code 65 q in (omega arith, omega (arith, ltb-true code 73 r), omega arith)
     go false false false p q r = tt
+
+-- where the kind has a name
+pub kind-told : CodeKnown
+kind-told code k e = rw e at (kind-known code)

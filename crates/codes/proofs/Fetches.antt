@@ -36,7 +36,7 @@ sum-take-lt (x ∷ bs) zero (suc n) h e = omega (arith, eqb-false x 0 e)
 sum-take-lt (x ∷ bs) (suc j) (suc n) h e = omega (arith, sum-take-lt bs j n (le-of-suc-le-suc h) e)
 
 -- one layer of a fetch, with d for the fetch of what follows it
-abbrev pub layerOf : ℕ → ℕ → ℕ → List ℕ → Fetched → Fetched
+abbrev layerOf : ℕ → ℕ → ℕ → List ℕ → Fetched → Fetched
 layerOf b n j bs d =
     cond (ltb (length bs) (n + n * b)) outside
     (cond (eqb (getD bs j 0) 0) (value (number (take b (drop (n + j * b) bs)))) (extended b (number (take b (drop (n + j * b) bs))) d))
@@ -56,16 +56,16 @@ layer-same b n j bs d e same = go (ltb (length bs) (n + n * b)) (eqb (getD bs j 
     go false false p q = ap (extended b c) (same (ltb-false (length bs) (n + n * b) p) q)
 
 -- more layers than bits change nothing
-pub enough : (f g b n j : ℕ) (bs : List ℕ) → length bs < f → length bs < g → j < n → fetchLayers f b n j bs ≡ fetchLayers g b n j bs
+pub fetch-enough : (f g b n j : ℕ) (bs : List ℕ) → length bs < f → length bs < g → j < n → fetchLayers f b n j bs ≡ fetchLayers g b n j bs
 unfolding fetchLayers
-enough zero g b n j bs hf hg h = absurd (not-suc-le-zero hf)
-enough (suc f) zero b n j bs hf hg h = absurd (not-suc-le-zero hg)
-enough (suc f) (suc g) b n j bs hf hg h =
+fetch-enough zero g b n j bs hf hg h = absurd (not-suc-le-zero hf)
+fetch-enough (suc f) zero b n j bs hf hg h = absurd (not-suc-le-zero hg)
+fetch-enough (suc f) (suc g) b n j bs hf hg h =
     let n' = sum (take n bs) in
     let j' = sum (take j bs) in
     let bs' = drop (n + n * b) bs in
     layer-same b n j bs (fetchLayers f b n' j' bs') (fetchLayers g b n' j' bs') (λ l q.
-    enough f g b n' j' bs' (simp length-drop (omega arith)) (simp length-drop (omega arith)) (sum-take-lt bs j n h q))
+    fetch-enough f g b n' j' bs' (simp length-drop (omega arith)) (simp length-drop (omega arith)) (sum-take-lt bs j n h q))
 
 pub fetch-step : (b n j : ℕ) (bs : List ℕ) → j < n
     → chunkedAt b n j bs ≡ layerOf b n j bs (chunkedAt b (sum (take n bs)) (sum (take j bs)) (drop (n + n * b) bs))
@@ -75,7 +75,7 @@ fetch-step b n j bs h =
     let j' = sum (take j bs) in
     let bs' = drop (n + n * b) bs in
     layer-same b n j bs (fetchLayers (length bs) b n' j' bs') (chunkedAt b n' j' bs') (λ l q.
-    enough (length bs) (suc (length bs')) b n' j' bs' (simp length-drop (omega arith)) (omega arith) (sum-take-lt bs j n h q))
+    fetch-enough (length bs) (suc (length bs')) b n' j' bs' (simp length-drop (omega arith)) (omega arith) (sum-take-lt bs j n h q))
 
 -- ---- a fetch from layers that were written
 

@@ -11,7 +11,7 @@ use lib.Pow.{pow-pos, pow-mono, shr-lt}
 use borrow.Author.Tests.{eq-eqb}
 use Rattle.codes.specs.Bits.{sum, fixed}
 use Rattle.codes.specs.Codes.{continuation, rest, layers, chunked, Within}
-use Rattle.codes.proofs.Bits.{Bits, bits-append, bits-fixed}
+use Rattle.codes.proofs.Bits.{within-append, bits-fixed}
 
 -- ---- the continuation bits and what is left
 
@@ -66,12 +66,6 @@ within-rest b f (v ∷ vs) hb h j = go (eqb (v / 2 ^ b) 0) j (within-rest b f vs
 pub within-more : (f g : ℕ) (vs : List ℕ) → f ≤ g → Within f vs → Within g vs
 within-more f g vs l h j = lt-of-lt-of-le (h j) (pow-mono l)
 
-pub within-take : (w n : ℕ) (vs : List ℕ) → Within w vs → Within w (take n vs)
-within-take w zero vs h j = pow-pos w
-within-take w (suc n) [] h j = pow-pos w
-within-take w (suc n) (v ∷ vs) h zero = h 0
-within-take w (suc n) (v ∷ vs) h (suc j) = within-take w n vs (λ i. h (suc i)) j
-
 -- of values of at most t bits nothing is left above them
 pub rest-none : (t : ℕ) (vs : List ℕ) → Within t vs → rest t vs ≡ []
 unfolding rest
@@ -86,28 +80,29 @@ layers-nil zero b = refl
 layers-nil (suc f) b = layers-nil f b
 
 -- more layers than bits add nothing
-enough : (f b : ℕ) (vs : List ℕ) → 1 ≤ b → Within (suc f) vs → layers (suc (suc f)) b vs ≡ layers (suc f) b vs
+layers-enough : (f b : ℕ) (vs : List ℕ) → 1 ≤ b → Within (suc f) vs → layers (suc (suc f)) b vs ≡ layers (suc f) b vs
 unfolding layers
-enough zero b vs hb h = rw (rest-none b vs (within-more 1 b vs hb h), layers-nil 1 b)
-enough (suc f) b vs hb h = ap (λ (l : List ℕ). map (continuation b) vs ++ (fixed b vs ++ l)) (enough f b (rest b vs) hb (within-rest b (suc f) vs hb h))
+layers-enough zero b vs hb h = rw (rest-none b vs (within-more 1 b vs hb h), layers-nil 1 b)
+layers-enough (suc f) b vs hb h = ap (λ (l : List ℕ). map (continuation b) vs ++ (fixed b vs ++ l)) (layers-enough f b (rest b vs) hb (within-rest b (suc f) vs hb h))
 
 pub chunked-step : (b : ℕ) (vs : List ℕ) → 1 ≤ b → Within 32 vs → chunked b vs ≡ map (continuation b) vs ++ (fixed b vs ++ chunked b (rest b vs))
 unfolding layers
-chunked-step b vs hb h = ap (λ (l : List ℕ). map (continuation b) vs ++ (fixed b vs ++ l)) (sym (enough 30 b (rest b vs) hb (within-rest b 31 vs hb h)))
+chunked-step b vs hb h = ap (λ (l : List ℕ). map (continuation b) vs ++ (fixed b vs ++ l)) (sym (layers-enough 30 b (rest b vs) hb (within-rest b 31 vs hb h)))
 
 -- ---- its elements are bits
 
-pub bits-continuations : (b : ℕ) (vs : List ℕ) → Bits (map (continuation b) vs)
-bits-continuations b [] = tt
-bits-continuations b (v ∷ vs) = (go (eqb (v / 2 ^ b) 0), bits-continuations b vs)
+pub bits-continuations : (b : ℕ) (vs : List ℕ) → Within 1 (map (continuation b) vs)
+bits-continuations b [] j = omega arith
+bits-continuations b (v ∷ vs) zero = go (eqb (v / 2 ^ b) 0)
   where
     go : (t : Bool) → cond t 0 1 < 2
     go true = omega arith
     go false = omega arith
+bits-continuations b (v ∷ vs) (suc j) = bits-continuations b vs j
 
-pub bits-layers : (f b : ℕ) (vs : List ℕ) → Bits (layers f b vs)
+pub bits-layers : (f b : ℕ) (vs : List ℕ) → Within 1 (layers f b vs)
 unfolding layers
-bits-layers zero b vs = tt
-bits-layers (suc f) b vs =
-    bits-append (map (continuation b) vs) (fixed b vs ++ layers f b (rest b vs)) (bits-continuations b vs)
-    (bits-append (fixed b vs) (layers f b (rest b vs)) (bits-fixed b vs) (bits-layers f b (rest b vs)))
+bits-layers zero b vs j = omega arith
+bits-layers (suc f) b vs j =
+    within-append 1 (map (continuation b) vs) (fixed b vs ++ layers f b (rest b vs)) (bits-continuations b vs)
+    (within-append 1 (fixed b vs) (layers f b (rest b vs)) (bits-fixed b vs) (bits-layers f b (rest b vs))) j

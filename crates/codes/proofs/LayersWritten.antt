@@ -13,8 +13,8 @@ use lib.Pow.{pow-mono}
 use borrow.Author.Tests.{eqb-false}
 use Rattle.codes.specs.Bits.{bits, number, sum, fixed}
 use Rattle.codes.specs.Codes.{continuation, rest, chunked, Within}
-use Rattle.codes.proofs.Bits.{bits-fixed, bits-number, length-bits, length-fixed, number-append, number-bits, number-lt, fixed-append}
-use Rattle.codes.proofs.Layers.{bits-continuations, rest-append, chunked-step}
+use Rattle.codes.proofs.Bits.{length-bits, length-fixed, number-append, number-bits, fixed-append}
+use Rattle.codes.proofs.Layers.{rest-append, chunked-step}
 
 -- ---- continuation bits
 
@@ -22,15 +22,8 @@ use Rattle.codes.proofs.Layers.{bits-continuations, rest-append, chunke
 abbrev pub continuations : ℕ → List ℕ → ℕ → List ℕ
 continuations b vs i = map (continuation b) (take i vs)
 
-module _ (b : ℕ) (vs : List ℕ) (i : ℕ) (h : i ≤ length vs) where
-  pub length-continuations : length (continuations b vs i) ≡ i
-  length-continuations = rw (length-map (take i vs) (continuation b), length-take-le i vs h)
-
-  pub number-continuations-lt : number (continuations b vs i) < 2 ^ i
-  number-continuations-lt = rw length-continuations at (number-lt (continuations b vs i) (bits-continuations b (take i vs)))
-
-  pub continuations-back : bits i (number (continuations b vs i)) ≡ continuations b vs i
-  continuations-back = rw length-continuations at (bits-number (continuations b vs i) (bits-continuations b (take i vs)))
+pub length-continuations : (b : ℕ) (vs : List ℕ) (i : ℕ) → i ≤ length vs → length (continuations b vs i) ≡ i
+length-continuations b vs i h = rw (length-map (take i vs) (continuation b), length-take-le i vs h)
 
 pub continuations-add : (b : ℕ) (vs : List ℕ) (i k : ℕ) → continuations b vs (i + k) ≡ continuations b vs i ++ continuations b (drop i vs) k
 continuations-add b vs i k = rw (take-add i k vs) (map-append (continuation b) (take i vs) (take k (drop i vs)))
@@ -52,15 +45,8 @@ fixed-suc w vs i h =
 pub fixed-add : (w : ℕ) (vs : List ℕ) (i k : ℕ) → fixed w (take (i + k) vs) ≡ fixed w (take i vs) ++ fixed w (take k (drop i vs))
 fixed-add w vs i k = rw (take-add i k vs) (fixed-append w (take i vs) (take k (drop i vs)))
 
-module _ (w : ℕ) (vs : List ℕ) (i : ℕ) (h : i ≤ length vs) where
-  pub length-fixed-take : length (fixed w (take i vs)) ≡ i * w
-  length-fixed-take = rw (length-fixed w (take i vs), length-take-le i vs h)
-
-  pub number-fixed-lt : number (fixed w (take i vs)) < 2 ^ (i * w)
-  number-fixed-lt = rw length-fixed-take at (number-lt (fixed w (take i vs)) (bits-fixed w (take i vs)))
-
-  pub bits-fixed-take : bits (i * w) (number (fixed w (take i vs))) ≡ fixed w (take i vs)
-  bits-fixed-take = rw length-fixed-take at (bits-number (fixed w (take i vs)) (bits-fixed w (take i vs)))
+pub length-fixed-take : (w : ℕ) (vs : List ℕ) (i : ℕ) → i ≤ length vs → length (fixed w (take i vs)) ≡ i * w
+length-fixed-take w vs i h = rw (length-fixed w (take i vs), length-take-le i vs h)
 
 pub number-fixed-suc : (w : ℕ) (vs : List ℕ) (i : ℕ) → i < length vs
     → number (fixed w (take i vs)) * 2 ^ w + getD vs i 0 % 2 ^ w ≡ number (fixed w (take (i + 1) vs))

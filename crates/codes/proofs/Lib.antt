@@ -1,4 +1,5 @@
--- Laws that belong to no one function, each file about what its name says; Promises proves what specs/Promises states.
+-- Laws of more than one function, or too long for its proof, each file about what its name says; Promises proves what
+-- specs/Promises states.
 pub mod Best
 pub mod Bits
 pub mod BitsWritten
@@ -8,7 +9,6 @@ pub mod Fetches
 pub mod Layers
 pub mod LayersWritten
 pub mod Lists
-pub mod Masks
 pub mod Parts
 pub mod Promises
 pub mod Tallies

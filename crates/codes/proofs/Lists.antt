@@ -1,10 +1,10 @@
--- Lists that agree from one place on.
-use mathlib.Core.Path.{_≡_, sym, ap, _∙_}
+-- Lists that agree from one place on, and lists of zeros.
+use mathlib.Core.Path.{_≡_, refl, sym, ap, _∙_}
 use mathlib.Core.List.{List}
-use Prim.Native.Nat.{ℕ, _+_, _-_, _≤_}
+use Prim.Native.Nat.{ℕ, zero, suc, _+_, _-_, _≤_}
 use native.Mathlib.Nat.{add-zero}
 use native.Mathlib.Omega.{arith}
-use lib.ListN.{drop, getD}
+use lib.ListN.{drop, getD, replicate}
 use lib.Seq.{drop-drop, getD-drop}
 
 module _ {ℓ} {A : Type ℓ} (xs ys : List A) (n : ℕ) (e : drop n xs ≡ drop n ys) where
@@ -15,3 +15,8 @@ module _ {ℓ} {A : Type ℓ} (xs ys : List A) (n : ℕ) (e : drop n xs ≡ drop
 
   pub getD-there : (d : A) → getD xs n d ≡ getD ys n d
   getD-there d = rw (add-zero n) at (sym (getD-drop n xs 0 d) ∙ ap (λ (l : List A). getD l 0 d) e ∙ getD-drop n ys 0 d)
+
+pub zeros-at : (n t : ℕ) → _≡_ {A = ℕ} (getD (replicate n 0) t 0) 0
+zeros-at zero t = refl
+zeros-at (suc n) zero = refl
+zeros-at (suc n) (suc t) = zeros-at n t

@@ -10,31 +10,33 @@ use borrow.Author.Tests.{lt-ltb}
 use Rattle.codes.specs.declared.kinds.Kind.{Kind}
 use Rattle.codes.specs.declared.kinds.Kind.the-variants.{Fixed, Chunked, Refused}
 use Rattle.codes.specs.Bits.{fixed, bytesFor, padded, bitsOf}
-use Rattle.codes.specs.Codes.{kindOf, chunked, kindBits, part, Holds}
+use Rattle.codes.specs.Codes.{kindOf, chunked, kindBits, part, Within, Holds}
 use Rattle.codes.specs.Fetch.{value, chunkedAt, kindFetched, fetched}
-use Rattle.codes.proofs.Bits.{Bits, bits-append, bits-fixed, length-fixed, fixed-append, bytes-bits, fixed-fetch}
-use Rattle.codes.proofs.CodeByte.{Known, kind-known}
+use Rattle.codes.specs.Promises.{Known}
+use Rattle.codes.proofs.Bits.{within-append, bits-fixed, length-fixed, fixed-append, bytes-bits, fixed-fetch}
+use Rattle.codes.proofs.CodeByte.{kind-known}
+use Rattle.codes.proofs.Fetches.{fixed-inside, fetch-enough, layers-back}
 use Rattle.codes.proofs.Layers.{bits-layers}
-use Rattle.codes.proofs.Fetches.{fixed-inside, enough, layers-back}
+use Rattle.codes.proofs.Lists.{zeros-at}
 
 -- the zero bits that pad so many bits
 abbrev padding : ℕ → List ℕ
 padding n = take (bytesFor n * 8 - n) (replicate 7 0)
 
-bits-padded : (bs : List ℕ) → Bits bs → bitsOf (padded bs) ≡ bs ++ padding (length bs)
+bits-padded : (bs : List ℕ) → Within 1 bs → bitsOf (padded bs) ≡ bs ++ padding (length bs)
 unfolding padded
 bits-padded bs h =
     let n = length bs in
     let k = bytesFor n in
     let e : k * 8 ≡ n + (k * 8 - n) = omega arith in
-    bytes-bits k (bs ++ replicate 7 0) (bits-append bs (replicate 7 0) h (omega arith)) (simp length-append (omega arith))
+    bytes-bits k (bs ++ replicate 7 0) (within-append 1 bs (replicate 7 0) h (λ j. rw (zeros-at 7 j) (omega arith))) (simp length-append (omega arith))
     ∙ ap (λ (m : ℕ). take m (bs ++ replicate 7 0)) e ∙ take-append-add bs (replicate 7 0) (k * 8 - n)
 
-bits-kind : (k : Kind) (vs : List ℕ) → Bits (kindBits k vs)
+bits-kind : (k : Kind) (vs : List ℕ) → Within 1 (kindBits k vs)
 unfolding kindBits
-bits-kind (Fixed w) vs = bits-fixed w vs
-bits-kind (Chunked b) vs = bits-layers 32 b vs
-bits-kind Refused vs = tt
+bits-kind (Fixed w) vs j = bits-fixed w vs j
+bits-kind (Chunked b) vs j = bits-layers 32 b vs j
+bits-kind Refused vs j = omega arith
 
 -- a part's bits are the level's, and then others
 bits-part : (code : ℕ) (vs after : List ℕ) → let bs = kindBits (kindOf code) vs in bitsOf (part code vs ++ after) ≡ bs ++ (padding (length bs) ++ bitsOf after)
@@ -54,7 +56,7 @@ unfolding chunkedAt
 chunked-back b vs after j hb hj hv =
     let l = chunked b vs ++ after in
     rw (
-      enough (suc (length l)) (suc (length l + 31)) b (length vs) j l (omega arith) (omega arith) hj,
+      fetch-enough (suc (length l)) (suc (length l + 31)) b (length vs) j l (omega arith) (omega arith) hj,
       layers-back 31 (length l + 31) b vs j after hb (omega arith) hj hv,
       lt-ltb (getD vs j 0) (2 ^ 32) hv,
     )

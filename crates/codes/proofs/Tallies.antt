@@ -7,7 +7,7 @@ use native.Mathlib.Nat.{lt-of-not-le, zero-div}
 use native.Mathlib.Numerals.{add-one}
 use native.Mathlib.Omega.{arith}
 use lib.Dec.{eqb, ltb}
-use lib.ListN.{length, take, set, getD, replicate, List·getD-eq-default}
+use lib.ListN.{length, take, set, getD, List·getD-eq-default}
 use lib.Pow.{pow-pos, shr-shr}
 use lib.Seq.{take-suc, getD-set-same, getD-set-other}
 use borrow.Author.Tests.{eq-eqb, eqb-true, eqb-false, ltb-true, ltb-false}
@@ -101,11 +101,6 @@ tally-more counts vs i w h q l e t = rw (add-one i, take-suc vs i 0 h, tally-app
     go false p = rw (getD-set-other counts w t (getD counts w 0 + 1) 0 (λ q. eqb-false w t p (sym q))) (omega (arith, e t))
 
 -- ---- the counts in an array
-
-pub zeros-at : (n t : ℕ) → _≡_ {A = ℕ} (getD (replicate n 0) t 0) 0
-zeros-at zero t = refl
-zeros-at (suc n) zero = refl
-zeros-at (suc n) (suc t) = zeros-at n t
 
 -- one entry more, from the one above it
 pub measured-more : (over counts vs : List ℕ) (t : ℕ) → 0 < t → t ≤ 32 → length over ≡ 33 → Tallied vs counts

@@ -25,9 +25,9 @@ over-extended : (s a : ℕ) (d : Fetched) → 2 ^ 32 ≤ a → within32 (extende
 over-extended s a (value v) h = over (a + 2 ^ s * v) (omega arith)
 over-extended s a outside h = refl
 
-pub start : (d : Fetched) → extended 0 0 d ≡ d
-start (value v) = ap value (omega arith)
-start outside = refl
+pub extended-zero : (d : Fetched) → extended 0 0 d ≡ d
+extended-zero (value v) = ap value (omega arith)
+extended-zero outside = refl
 
 -- past 32 bits only whether there is anything counts
 cap : (s a : ℕ) (d : Fetched) → within32 (extended s a d) ≡ within32 (extended (min s 32) a d)
@@ -66,18 +66,19 @@ abbrev pub answer : List ℕ → ℕ → ℕ → ℕ → ℕ → ℕ → ℕ →
 answer bs b at n k s a = within32 (extended s a (chunkedAt b n k (drop at bs)))
 
 -- the chunk there
-abbrev pub chunkAt : List ℕ → ℕ → ℕ → ℕ → ℕ → ℕ
+abbrev chunkAt : List ℕ → ℕ → ℕ → ℕ → ℕ → ℕ
 chunkAt bs b at n k = number (take b (drop (at + n + k * b) bs))
 
 -- the fetch in the next layer
 abbrev deeper : List ℕ → ℕ → ℕ → ℕ → ℕ → Fetched
 deeper bs b at n k = chunkedAt b (sum (take n (drop at bs))) (sum (take k (drop at bs))) (drop (at + n + n * b) bs)
 
-module _ (bs : List ℕ) (b at n k s a : ℕ) (hk : k < n) (hat : at ≤ length bs) where
-  pub answer-short : length bs - at < n + n * b → answer bs b at n k s a ≡ outside
+-- of bits up to `end`
+module _ (bs : List ℕ) {end : ℕ} (len : length bs ≡ end) (b at n k s a : ℕ) (hk : k < n) where
+  pub answer-short : end - at < n + n * b → answer bs b at n k s a ≡ outside
   answer-short h = rw (fetch-step b n k (drop at bs) hk, lt-ltb (length (drop at bs)) (n + n * b) (simp length-drop (omega arith)))
 
-  module _ (whole : n + n * b ≤ length bs - at) where
+  module _ (whole : n + n * b ≤ end - at) where
     layer-there : chunkedAt b n k (drop at bs)
         ≡ cond (eqb (number (take 1 (drop (at + k) bs))) 0) (value (chunkAt bs b at n k)) (extended b (chunkAt bs b at n k) (deeper bs b at n k))
     layer-there =

@@ -13,16 +13,16 @@ use lib.Count.{ones, ones-cat}
 use lib.Pow.{pow-add}
 use Rattle.codes.specs.Bits.{number, sum, bitsOf}
 use Rattle.codes.specs.Codes.{Within}
-use Rattle.codes.proofs.Bits.{Bits, bits-take, bits-drop, bits-fixed, length-fixed, fixed-fetch, number-append, number-lt, number-part, number-take-lt, sum-take-add, sum-le}
+use Rattle.codes.proofs.Bits.{within-take, within-drop, bits-fixed, length-fixed, fixed-fetch, number-append, number-lt, number-part, number-take-lt, sum-take-add, sum-le}
 
 -- ---- numbers in a part
 
 -- the bits from `at` on
-abbrev pub from : List ℕ → ℕ → List ℕ
+abbrev from : List ℕ → ℕ → List ℕ
 from bytes at = drop at (bitsOf bytes)
 
-bits-from : (bytes : List ℕ) (at : ℕ) → Bits (from bytes at)
-bits-from bytes at = bits-drop at (bitsOf bytes) (bits-fixed 8 bytes)
+bits-from : (bytes : List ℕ) (at : ℕ) → Within 1 (from bytes at)
+bits-from bytes at = within-drop 1 at (bitsOf bytes) (bits-fixed 8 bytes)
 
 -- the number of n bits, and of m bits after them
 pub number-more : (bytes : List ℕ) (at n m : ℕ) → at + n + m ≤ length bytes * 8
@@ -44,7 +44,7 @@ number-next bytes i k h b =
     rw (e, number-more bytes (i * 8) (k * 8) 8 (omega arith), e', number-byte bytes (i + k) h b)
 
 -- the number that k bytes spell
-abbrev pub spelled : ℕ → List ℕ → ℕ → ℕ
+abbrev spelled : ℕ → List ℕ → ℕ → ℕ
 spelled zero bytes i = 0
 spelled (suc k) bytes i = spelled k bytes i * 256 + getD bytes (i + k) 0
 
@@ -73,7 +73,7 @@ read-part bytes at w first n r l h k =
     let e' : take w (from bytes at) ≡ take w (drop s d) = rw (drop-drop s (first * 8) (bitsOf bytes), e) in
     let len : length (take (n * 8) d) ≡ n * 8 = length-take-le (n * 8) d (simp (length-drop, length-fixed) (omega arith)) in
     rw (e', ← (take-drop-take w s (n * 8) d (omega arith)))
-    (number-part (take (n * 8) d) s w r (bits-take (n * 8) d (bits-from bytes (first * 8))) (omega arith))
+    (number-part (take (n * 8) d) s w r (within-take 1 (n * 8) d (bits-from bytes (first * 8))) (omega arith))
 
 -- ---- ones in a part
 
@@ -84,13 +84,15 @@ ones-bit (suc zero) h = refl
 ones-bit (suc (suc b)) h = absurd (omega arith)
 
 -- the ones of a number are those of its bits
-ones-number : (bs : List ℕ) → Bits bs → ones (number bs) ≡ sum bs
+ones-number : (bs : List ℕ) → Within 1 bs → ones (number bs) ≡ sum bs
 unfolding number sum ones
 ones-number [] h = refl
-ones-number (b ∷ bs) h = rw (ones-cat (length bs) b (number bs) (number-lt bs (h .1)), ones-bit b (h .0), ones-number bs (h .1))
+ones-number (b ∷ bs) h =
+    let t : Within 1 bs = λ j. h (suc j) in
+    rw (ones-cat (length bs) b (number bs) (number-lt bs t refl), ones-bit b (h 0), ones-number bs t)
 
 pub ones-part : (bytes : List ℕ) (at w : ℕ) → ones (number (take w (from bytes at))) ≡ sum (take w (from bytes at))
-ones-part bytes at w = ones-number (take w (from bytes at)) (bits-take w (from bytes at) (bits-from bytes at))
+ones-part bytes at w = ones-number (take w (from bytes at)) (within-take 1 w (from bytes at) (bits-from bytes at))
 
 pub sum-part-le : (bytes : List ℕ) (at w : ℕ) → sum (take w (from bytes at)) ≤ w
 sum-part-le bytes at w = sum-le (from bytes at) w (bits-from bytes at)
@@ -100,7 +102,7 @@ pub ones-more : (bytes : List ℕ) (at n m : ℕ) → sum (take (n + m) (from by
 ones-more bytes at n m = sum-take-add n m (from bytes at) ∙ rw (drop-drop n at (bitsOf bytes))
 
 -- the number that k bytes spell from the last one on
-abbrev pub reversed : ℕ → List ℕ → ℕ → ℕ
+abbrev reversed : ℕ → List ℕ → ℕ → ℕ
 reversed zero bytes i = 0
 reversed (suc k) bytes i = reversed k bytes i + getD bytes (i + k) 0 * 2 ^ (k * 8)
 

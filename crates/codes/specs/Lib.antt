@@ -1,6 +1,5 @@
--- What the level codes mean. A reader of the public contracts needs Bits, Codes, Choice and Fetch; Marked has the marked
--- parts, Promises what is shown besides the contracts. Lists has a test that the tables of marked cases and check use. Measure,
--- Written and Radix are cited by private functions alone.
+-- What the level codes mean. A reader of the public contracts needs Lists, Bits, Codes, Choice and Fetch; Marked has the
+-- marked parts, Promises what is shown besides the contracts. Measure, Written and Radix are cited by private functions alone.
 pub mod Lists
 pub mod Bits
 pub mod Codes

@@ -1,10 +1,11 @@
 -- What is shown of the level codes besides each function's contract. proofs/Promises proves each, as
--- `round-trip`, `lengths`, `best-choice`, `part-alone` and `least-width`.
+-- `round-trip`, `lengths`, `best-choice`, `code-known` and `least-width`.
 use mathlib.Core.Path.{_≡_}
 use mathlib.Core.List.{List, _++_, map}
 use Prim.Native.Nat.{ℕ, _+_, _*_, _^_, _≤_, _<_}
-use lib.ListN.{length, take, drop, getD}
-use Rattle.codes.specs.declared.kinds.Kind.the-variants.{Fixed, Chunked}
+use lib.ListN.{length, getD}
+use Rattle.codes.specs.declared.kinds.Kind.{Kind}
+use Rattle.codes.specs.declared.kinds.Kind.the-variants.{Fixed, Chunked, Refused}
 use Rattle.codes.specs.Bits.{sum, bytesFor}
 use Rattle.codes.specs.Codes.{kindOf, part, Within, Holds}
 use Rattle.codes.specs.Choice.{widthIn, chunks, size, chosen}
@@ -22,20 +23,26 @@ pub record Lengths : Type 0 where
   pub chunked-size : (code b : ℕ) (vs : List ℕ) → kindOf code ≡ Chunked b → Within 32 vs → size code vs ≡ (b + 1) * sum (map (chunks b) vs)
 
 -- 3. The chosen code holds the values, its size is the one given with it, and no code byte that holds them has fewer bits. Among
--- those with as many bits it has the least number: a fixed code goes before the chunked ones, and those by b.
+-- those with as many bits it has the least number: a fixed code goes before the chunked ones, and those by b. It has at most
+-- 32 bits for each value.
 pub record Best (vs : List ℕ) : Type 0 where
   pub holds : Holds (kindOf (chosen vs .code)) vs
   pub its-size : chosen vs .size ≡ size (chosen vs .code) vs
   pub fewest : (code : ℕ) → Holds (kindOf code) vs → chosen vs .size ≤ size code vs
   pub on-tie : (code : ℕ) → Holds (kindOf code) vs → size code vs ≡ chosen vs .size → chosen vs .code ≤ code
+  pub at-most : chosen vs .size ≤ length vs * 32
 
 abbrev pub BestChoice : Type 0
 BestChoice = (vs : List ℕ) → Within 32 vs → Best vs
 
--- 4. What a fetch gives depends only on the part: whatever bytes stand before and after it, a fetch that is handed its slice gives the same.
-abbrev pub PartAlone : Type 0
-PartAlone = (code count j : ℕ) (before bytes after : List ℕ)
-    → fetched code count j (take (length bytes) (drop (length before) (before ++ (bytes ++ after)))) ≡ fetched code count j bytes
+-- 4. A fixed code is its own width, at most 32, and a chunked code is 64 + b with b from 1 to 8.
+abbrev pub Known : Kind → ℕ → Type 0
+Known (Fixed w) code = (w ≤ 32) × (w ≡ code)
+Known (Chunked b) code = (1 ≤ b) × (b ≤ 8) × (64 + b ≡ code)
+Known Refused code = Unit {0}
+
+abbrev pub CodeKnown : Type 0
+CodeKnown = (code : ℕ) (k : Kind) → kindOf code ≡ k → Known k code
 
 -- 5. The bits of a number up to its highest one bit hold it, and no fewer do.
 pub record LeastWidth : Type 0 where

@@ -6,11 +6,12 @@ use super::reading::low_bits;
 use super::writing::Writer;
 use super::writing::finish;
 use super::writing::put;
-use super::writing::wide;
+use super::writing::wide_value;
 ghost use mathlib.Core.Path.{_≡_};
 ghost use mathlib.Core.List.{_++_};
 ghost use Prim.Native.Nat.{_+_, _*_, _<_, _≤_};
 ghost use lib.ListN.{length, drop, replicate};
+ghost use Rattle.codes.specs.Lists.{atFront};
 ghost use Rattle.codes.specs.Bits.{fixed};
 ghost use Rattle.codes.specs.Codes.{kindOf, part, Holds, worked};
 ghost use Rattle.codes.specs.Written.{Wrote};
@@ -24,7 +25,7 @@ fn put_fixed(out: &mut [u8], writer: Writer, w: usize, values: &[u32]) -> Writer
     let mut p = writer;
     let mut i: usize = 0;
     while i < values.len() {
-        p = put(out, p, w, low_bits(wide(values[i]), w));
+        p = put(out, p, w, low_bits(wide_value(values[i]), w));
         i += 1;
     }
     p
@@ -33,7 +34,7 @@ fn put_fixed(out: &mut [u8], writer: Writer, w: usize, values: &[u32]) -> Writer
 // Copies the values to the front.
 pub fn copy_values(work: &mut [u32], values: &[u32])
     requires { ⌜ length (now values) ≤ length (now work) ⌝ }
-    ensures { λ r. ⌜ now (work .exit) ≡ now (values .entry) ++ drop (length (now (values .entry))) (now (work .entry)) ⌝ }
+    ensures { λ r. ⌜ now (work .exit) ≡ atFront (now (values .entry)) (now (work .entry)) ⌝ }
 {
     let mut i: usize = 0;
     while i < values.len() {

@@ -2,7 +2,7 @@
 use super::reading::least;
 use super::writing::Writer;
 use super::writing::put;
-use super::writing::wide;
+use super::writing::wide_value;
 ghost use mathlib.Core.Path.{_≡_};
 ghost use mathlib.Core.List.{_++_, map};
 ghost use Prim.Native.Nat.{_+_, _*_, _%_, _^_, _<_, _≤_};
@@ -36,7 +36,7 @@ fn chunk_of(v: u32, radix: Radix) -> u64
     requires { ⌜ IsRadix radix ⌝ }
     ensures { λ r. ⌜ r ≡ v % 2 ^ (radix .bits) ⌝ }
 {
-    wide(v) & (radix.power - 1)
+    wide_value(v) & (radix.power - 1)
 }
 
 // The continuation bit of `v`: 1 where another chunk follows the lowest.
@@ -44,7 +44,7 @@ fn continuation_bit(v: u32, radix: Radix) -> u64
     requires { ⌜ IsRadix radix ⌝ }
     ensures { λ r. ⌜ (r < 2) × (r ≡ continuation (radix .bits) v) ⌝ }
 {
-    if wide(v) < radix.power { 0 } else { 1 }
+    if wide_value(v) < radix.power { 0 } else { 1 }
 }
 
 // The number that the continuation bits of `n` values from value `from` on spell.

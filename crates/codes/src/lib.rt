@@ -16,3 +16,4 @@ pub use fetching::Found;
 pub use fetching::fetch;
 pub use kinds::Kind;
 pub use kinds::kind_of;
+pub use reading::least;

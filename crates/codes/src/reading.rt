@@ -5,7 +5,7 @@ ghost use lib.Count.{ones};
 ghost use lib.ListN.{length, take, drop, getD};
 ghost use Rattle.codes.specs.Bits.{number, sum, bitsOf};
 
-fn wide(x: u8) -> u32
+fn wide_byte(x: u8) -> u32
     ensures { λ r. ⌜ (r < 256) × (r ≡ x) ⌝ }
 {
     x as u32
@@ -16,10 +16,11 @@ fn byte(part: &[u8], i: usize) -> u64
     requires { ⌜ i < length (now part) ⌝ }
     ensures { λ r. ⌜ (r < 256) × (r ≡ getD (now (part .entry)) i 0) ⌝ }
 {
-    wide(part[i]) as u64
+    wide_byte(part[i]) as u64
 }
 
-pub(crate) fn least(a: usize, b: usize) -> usize
+// The lesser of two numbers.
+pub fn least(a: usize, b: usize) -> usize
     ensures { λ r. ⌜ r ≡ min a b ⌝ }
 {
     if a < b { a } else { b }
@@ -41,7 +42,7 @@ fn short_word(part: &[u8]) -> u64
     let mut acc: u64 = 0;
     let mut i: usize = 0;
     while i < part.len() {
-        acc = acc * 256 + wide(part[i]) as u64;
+        acc = acc * 256 + byte(part, i);
         i += 1;
     }
     acc
@@ -52,10 +53,10 @@ fn four_bytes(part: &[u8], first: usize) -> u32
     requires { ⌜ first + 4 ≤ length (now part) ⌝ }
     ensures { λ r. ⌜ r ≡ number (take 32 (drop (first * 8) (bitsOf (now (part .entry))))) ⌝ }
 {
-    wide(part[first]) * 16777216
-        + wide(part[first + 1]) * 65536
-        + wide(part[first + 2]) * 256
-        + wide(part[first + 3])
+    wide_byte(part[first]) * 16777216
+        + wide_byte(part[first + 1]) * 65536
+        + wide_byte(part[first + 2]) * 256
+        + wide_byte(part[first + 3])
 }
 
 // The number that the 8 bytes from byte `first` on spell.

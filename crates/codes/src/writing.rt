@@ -14,7 +14,7 @@ pub(crate) struct Writer {
 }
 
 // A value as a word.
-pub(crate) fn wide(x: u32) -> u64
+pub(crate) fn wide_value(x: u32) -> u64
     ensures { λ r. ⌜ r ≡ x ⌝ }
 {
     x as u64

@@ -1,1 +1,2 @@
+-- What the exported functions answer.
 pub mod Numbers

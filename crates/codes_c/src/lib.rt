@@ -1,4 +1,4 @@
-// The level codes for programs in other languages: each function of `codes`, on numbers and slices.
+// The level codes for programs in other languages: kind, choose, encode and fetch, on numbers and slices.
 ghost use mathlib.Core.Path.{_≡_};
 ghost use mathlib.Core.List.{_++_};
 ghost use Prim.Native.Nat.{_^_, _<_, _≤_};

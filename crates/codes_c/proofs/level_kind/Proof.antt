@@ -1,10 +1,8 @@
 -- `level_kind` meets its contract.
 use native.Mathlib.Omega.{arith}
 use borrow.Author.Needs.{needs}
-use mathlib.Core.Path.{_≡_, sym, ap, _∙_}
-use Rattle.codes.specs.declared.kinds.Kind.the-variants.{Fixed, Chunked}
-use Rattle.codes.specs.Codes.{kindOf}
-use Rattle.codes.proofs.CodeByte.{kind-known}
+use mathlib.Core.Path.{sym, ap, _∙_}
+use Rattle.codes.proofs.Promises.{code-known}
 use Rattle.codes_c.specs.Numbers.{kindNumber}
 use Rattle.codes_c.proofs.level_kind.Statement.{statement}
 use Rattle.codes_c.proofs.level_kind.Tie as tie
@@ -17,9 +15,7 @@ enum-known-kind c = search needs
 
 cast-result : tie.Need-cast-result
 cast-result c =
-    let code = c .before .before .before .before .args .code in
-    let e : kindOf code ≡ Fixed (c .before .kind .given .0 .0) = sym (c .before .before .before .kind-of .ensures) ∙ c .before .kind .given .1 in
-    let k = rw e at (kind-known code) in
+    let k = code-known _ _ (sym (c .before .before .before .kind-of .ensures) ∙ c .before .kind .given .1) in
     omega arith
 
 enum-known-kind-2 : tie.Need-enum-known-kind-2
@@ -27,16 +23,12 @@ enum-known-kind-2 c = search needs
 
 add-result : tie.Need-add-result
 add-result c =
-    let code = c .before .before .before .before .args .code in
-    let e : kindOf code ≡ Chunked (c .before .kind2 .given .0 .0) = sym (c .before .before .before .kind-of .ensures) ∙ c .before .kind2 .given .1 in
-    let k = rw e at (kind-known code) in
+    let k = code-known _ _ (sym (c .before .before .before .kind-of .ensures) ∙ c .before .kind2 .given .1) in
     omega arith
 
 cast-result-2 : tie.Need-cast-result-2
 cast-result-2 c =
-    let code = c .before .before .before .before .args .code in
-    let e : kindOf code ≡ Chunked (c .before .kind2 .given .0 .0) = sym (c .before .before .before .kind-of .ensures) ∙ c .before .kind2 .given .1 in
-    let k = rw e at (kind-known code) in
+    let k = code-known _ _ (sym (c .before .before .before .kind-of .ensures) ∙ c .before .kind2 .given .1) in
     omega arith
 
 enum-told : tie.Need-enum-told

@@ -8,7 +8,7 @@ use Rattle.codes.specs.Bits.{fixed}
 use Rattle.codes.specs.Codes.{kindOf, kindBits, chunked, worked}
 use Rattle.codes.proofs.Bits.{length-fixed}
 use Rattle.codes.proofs.BitsWritten.{bits-room, wrote-part}
-use Rattle.codes.proofs.CodeByte.{kind-known}
+use Rattle.codes.proofs.CodeByte.{kind-told}
 use borrow.Author.Needs.{needs}
 use Rattle.codes.proofs.encoding.encode.Statement.{statement}
 use Rattle.codes.proofs.encoding.encode.Tie as tie
@@ -27,7 +27,7 @@ put-fixed-requires c κs =
     let w = k .kind .given .0 .0 in
     let vs = s .args .values .now in
     let e : kindOf (s .args .code) ≡ Fixed w = sym (k .before .before .kind-of .ensures) ∙ k .kind .given .1 in
-    let h = rw e at (kind-known (s .args .code)) in
+    let h = kind-told _ _ e in
     let r = bits-room (fixed w vs) (s .args .out .now) (rw e at (s .pre .1 .0)) in
     omega (arith, length-fixed w vs)
 
@@ -59,7 +59,7 @@ put-layers-requires c κs =
     let b = k .kind2 .given .0 .0 in
     let vs = s .args .values .now in
     let e : kindOf (s .args .code) ≡ Chunked b = sym (k .before .before .kind-of .ensures) ∙ k .kind2 .given .1 in
-    let h = rw e at (kind-known (s .args .code)) in
+    let h = kind-told _ _ e in
     let r = bits-room (chunked b vs) (s .args .out .now) (rw e at (s .pre .1 .0)) in
     let t = ap (take (length vs)) (v .copy-values .ensures) ∙ take-append-seam vs _ in
     rw t ((h .0, h .1, omega arith, omega arith, rw e at (s .pre .0)), omega arith)

@@ -25,14 +25,14 @@ loop-holds c =
     let a = c .before .before .args in
     (omega arith, wrote-nothing (a .out .now) (a .writer), omega arith)
 
-mul-wide : tie.Need-mul-wide Inv-loop μ-loop
-mul-wide c = omega arith
+mul-wide-value : tie.Need-mul-wide-value Inv-loop μ-loop
+mul-wide-value c = omega arith
 
-shared-slice-read-wide : tie.Need-shared-slice-read-wide Inv-loop μ-loop
-shared-slice-read-wide c = omega arith
+shared-slice-read-wide-value : tie.Need-shared-slice-read-wide-value Inv-loop μ-loop
+shared-slice-read-wide-value c = omega arith
 
-wide-requires : tie.Need-wide-requires Inv-loop μ-loop
-wide-requires c κs = omega arith
+wide-value-requires : tie.Need-wide-value-requires Inv-loop μ-loop
+wide-value-requires c κs = omega arith
 
 low-bits-requires : tie.Need-low-bits-requires Inv-loop μ-loop
 low-bits-requires c κs = omega arith
@@ -57,7 +57,7 @@ loop-again c =
     let a = c .before .before .before .before .before .before .before .before .before .before .before .args in
     let u = c .before .before .put .ensures in
     let x = getD (a .values .now) (l .i) 0 in
-    let b = rw (c .before .before .before .low-bits .ensures .1, c .before .before .before .before .wide .ensures, bits-mod (a .w) x) at (u .0) in
+    let b = rw (c .before .before .before .low-bits .ensures .1, c .before .before .before .before .wide-value .ensures, bits-mod (a .w) x) at (u .0) in
     (omega arith, rw (fixed-suc (a .w) (a .values .now) (l .i) (omega arith)) (wrote-both (l .inv .1) b), u .1)
 
 same-length : tie.Need-same-length Inv-loop μ-loop
@@ -77,9 +77,9 @@ put-fixed-spec =
     Inv-loop
     μ-loop
     loop-holds
-    mul-wide
-    shared-slice-read-wide
-    wide-requires
+    mul-wide-value
+    shared-slice-read-wide-value
+    wide-value-requires
     low-bits-requires
     put-requires
     add-i

@@ -1,11 +1,9 @@
 -- `fetch` meets its contract: what the code byte says decides.
 use native.Mathlib.Omega.{arith}
 use borrow.Author.Needs.{needs}
-use mathlib.Core.Path.{_≡_, refl, sym, _∙_}
-use Rattle.codes.specs.declared.kinds.Kind.the-variants.{Fixed, Chunked, Refused}
-use Rattle.codes.specs.Codes.{kindOf}
+use mathlib.Core.Path.{sym, _∙_}
 use Rattle.codes.specs.Fetch.{fetched}
-use Rattle.codes.proofs.CodeByte.{kind-known}
+use Rattle.codes.proofs.CodeByte.{kind-told}
 use Rattle.codes.proofs.fetching.fetch.Statement.{statement}
 use Rattle.codes.proofs.fetching.fetch.Tie as tie
 
@@ -17,9 +15,7 @@ enum-known-kind c = search needs
 
 fetch-fixed-requires : tie.Need-fetch-fixed-requires
 fetch-fixed-requires c κs =
-    let code = c .before .before .before .before .before .args .code in
-    let e : kindOf code ≡ Fixed (c .before .kind .given .0 .0) = sym (c .before .before .before .kind-of .ensures) ∙ c .before .kind .given .1 in
-    let k = rw e at (kind-known code) in
+    let k = kind-told _ _ (sym (c .before .before .before .kind-of .ensures) ∙ c .before .kind .given .1) in
     omega arith
 
 enum-known-kind-2 : tie.Need-enum-known-kind-2
@@ -27,9 +23,7 @@ enum-known-kind-2 c = search needs
 
 fetch-chunked-requires : tie.Need-fetch-chunked-requires
 fetch-chunked-requires c κs =
-    let code = c .before .before .before .before .before .args .code in
-    let e : kindOf code ≡ Chunked (c .before .kind2 .given .0 .0) = sym (c .before .before .before .kind-of .ensures) ∙ c .before .kind2 .given .1 in
-    let k = rw e at (kind-known code) in
+    let k = kind-told _ _ (sym (c .before .before .before .kind-of .ensures) ∙ c .before .kind2 .given .1) in
     omega arith
 
 enum-told : tie.Need-enum-told
@@ -37,23 +31,15 @@ enum-told c = search needs
 
 returns : tie.Need-returns
 unfolding fetched
-returns c =
-    let e : kindOf (c .before .before .before .before .before .before .args .code) ≡ Fixed (c .before .before .kind .given .0 .0) =
-    sym (c .before .before .before .before .kind-of .ensures) ∙ c .before .before .kind .given .1 in
-    rw e (c .fetch-fixed .ensures)
+returns c = rw (← (c .before .before .before .before .kind-of .ensures), c .before .before .kind .given .1) (c .fetch-fixed .ensures)
 
 returns-2 : tie.Need-returns-2
 unfolding fetched
-returns-2 c =
-    let e : kindOf (c .before .before .before .before .before .before .args .code) ≡ Chunked (c .before .before .kind2 .given .0 .0) =
-    sym (c .before .before .before .before .kind-of .ensures) ∙ c .before .before .kind2 .given .1 in
-    rw e (c .fetch-chunked .ensures)
+returns-2 c = rw (← (c .before .before .before .before .kind-of .ensures), c .before .before .kind2 .given .1) (c .fetch-chunked .ensures)
 
 returns-3 : tie.Need-returns-3
 unfolding fetched
-returns-3 c =
-    let e : kindOf (c .before .before .before .before .args .code) ≡ Refused = sym (c .before .before .kind-of .ensures) ∙ c .enum-told .given .1 in
-    rw e refl
+returns-3 c = rw (← (c .before .before .kind-of .ensures), c .enum-told .given .1)
 
 pub fetch-spec : {M : Type 1} → statement M
 fetch-spec =

@@ -7,7 +7,7 @@ use lib.ListN.{length, take, drop}
 use Rattle.codes.specs.Bits.{number, bitsOf}
 use Rattle.codes.specs.Fetch.{value, within32, chunkedAt}
 use Rattle.codes.proofs.Bits.{length-fixed}
-use Rattle.codes.proofs.Turns.{start, answer, answer-short, answer-last, answer-over, answer-more}
+use Rattle.codes.proofs.Turns.{extended-zero, answer, answer-short, answer-last, answer-over, answer-more}
 use Rattle.codes.proofs.fetching.fetch_chunked.Statement.{statement}
 use Rattle.codes.proofs.fetching.fetch_chunked.Tie as tie
 
@@ -27,8 +27,7 @@ returns : tie.Need-returns Inv-loop μ-loop
 returns c =
     let a = c .before .before .args in
     let bs = bitsOf (a .part .now) in
-    let short : length bs - 0 < a .count + a .count * a .b = rw (length-fixed 8 (a .part .now)) (omega arith) in
-    sym (answer-short bs (a .b) 0 (a .count) (a .index) 0 0 (omega arith) (omega arith) short) ∙ ap within32 (start (chunkedAt (a .b) (a .count) (a .index) bs))
+    sym (answer-short bs (length-fixed 8 (a .part .now)) (a .b) 0 (a .count) (a .index) 0 0 (omega arith) (omega arith)) ∙ ap within32 (extended-zero (chunkedAt (a .b) (a .count) (a .index) bs))
 
 loop-holds : tie.Need-loop-holds Inv-loop μ-loop
 loop-holds c =
@@ -42,7 +41,7 @@ loop-holds c =
       omega arith,
       omega arith,
       omega arith,
-      ap within32 (start (chunkedAt (a .b) (a .count) (a .index) (bitsOf (a .part .now)))),
+      ap within32 (extended-zero (chunkedAt (a .b) (a .count) (a .index) (bitsOf (a .part .now)))),
     )
 
 mul-if2 : tie.Need-mul-if2 Inv-loop μ-loop
@@ -74,9 +73,7 @@ returns-2 c =
     let l = c .before .before .before .before .before .before .before .before .loop in
     let a = c .before .before .before .before .before .before .before .before .before .before .before .args in
     let bs = bitsOf (a .part .now) in
-    let here : l .layer .at ≤ length bs = rw (length-fixed 8 (a .part .now)) (omega arith) in
-    let whole : l .layer .count + l .layer .count * a .b ≤ length bs - l .layer .at = rw (length-fixed 8 (a .part .now)) (omega arith) in
-    sym (answer-over bs (a .b) (l .layer .at) (l .layer .count) (l .layer .index) (l .shift) (l .acc) (l .inv .0) here whole (omega arith)) ∙ l .inv .8
+    sym (answer-over bs (length-fixed 8 (a .part .now)) (a .b) (l .layer .at) (l .layer .count) (l .layer .index) (l .shift) (l .acc) (l .inv .0) (omega arith) (omega arith)) ∙ l .inv .8
 
 add-read : tie.Need-add-read Inv-loop μ-loop
 add-read c = omega arith
@@ -92,9 +89,7 @@ returns-3 c =
     let l = c .before .before .before .before .before .before .before .before .before .before .before .loop in
     let a = c .before .before .before .before .before .before .before .before .before .before .before .before .before .before .args in
     let bs = bitsOf (a .part .now) in
-    let here : l .layer .at ≤ length bs = rw (length-fixed 8 (a .part .now)) (omega arith) in
-    let whole : l .layer .count + l .layer .count * a .b ≤ length bs - l .layer .at = rw (length-fixed 8 (a .part .now)) (omega arith) in
-    ap value (omega arith) ∙ sym (answer-last bs (a .b) (l .layer .at) (l .layer .count) (l .layer .index) (l .shift) (l .acc) (l .inv .0) here whole (omega arith) (omega arith)) ∙ l .inv .8
+    ap value (omega arith) ∙ sym (answer-last bs (length-fixed 8 (a .part .now)) (a .b) (l .layer .at) (l .layer .count) (l .layer .index) (l .shift) (l .acc) (l .inv .0) (omega arith) (omega arith) (omega arith)) ∙ l .inv .8
 
 next-layer-requires : tie.Need-next-layer-requires Inv-loop μ-loop
 next-layer-requires c κs = omega arith
@@ -113,10 +108,8 @@ loop-again c =
     let l = c .before .before .before .before .before .before .before .before .before .before .before .before .before .loop in
     let a = c .before .before .before .before .before .before .before .before .before .before .before .before .before .before .before .before .args in
     let bs = bitsOf (a .part .now) in
-    let here : l .layer .at ≤ length bs = rw (length-fixed 8 (a .part .now)) (omega arith) in
-    let whole : l .layer .count + l .layer .count * a .b ≤ length bs - l .layer .at = rw (length-fixed 8 (a .part .now)) (omega arith) in
     let one : number (take 1 (drop (l .layer .at + l .layer .index) bs)) ≡ 0 → ⊥ = λ z. omega arith in
-    let more = answer-more bs (a .b) (l .layer .at) (l .layer .count) (l .layer .index) (l .shift) (l .acc) (l .inv .0) here whole one in
+    let more = answer-more bs (length-fixed 8 (a .part .now)) (a .b) (l .layer .at) (l .layer .count) (l .layer .index) (l .shift) (l .acc) (l .inv .0) (omega arith) one in
     let to = c .before .next-layer in
     let k : to .result .index < to .result .count = omega arith in (
       k,
@@ -135,9 +128,7 @@ returns-4 c =
     let l = c .before .before .before .before .loop in
     let a = c .before .before .before .before .before .before .before .args in
     let bs = bitsOf (a .part .now) in
-    let here : l .layer .at ≤ length bs = rw (length-fixed 8 (a .part .now)) (omega arith) in
-    let short : length bs - l .layer .at < l .layer .count + l .layer .count * a .b = rw (length-fixed 8 (a .part .now)) (omega arith) in
-    sym (answer-short bs (a .b) (l .layer .at) (l .layer .count) (l .layer .index) (l .shift) (l .acc) (l .inv .0) here short) ∙ l .inv .8
+    sym (answer-short bs (length-fixed 8 (a .part .now)) (a .b) (l .layer .at) (l .layer .count) (l .layer .index) (l .shift) (l .acc) (l .inv .0) (omega arith)) ∙ l .inv .8
 
 pub fetch-chunked-spec : {M : Type 1} → statement M
 fetch-chunked-spec =

@@ -1,8 +1,8 @@
 -- `fetch_fixed` meets its contract.
 use native.Mathlib.Omega.{arith}
-use mathlib.Core.Path.{_≡_, sym, ap, _∙_}
-use Prim.Native.Nat.{ℕ, _+_, _≤_}
-use native.Mathlib.Nat.{mul-le-mul-left}
+use mathlib.Core.Path.{sym, ap, _∙_}
+use Prim.Native.Nat.{_+_}
+use native.Mathlib.Nat.{mul-le-mul-left, pos-of-ne-zero}
 use lib.Pow.{pow-mono}
 use Rattle.codes.specs.Bits.{number, bitsOf}
 use Rattle.codes.specs.Fetch.{value}
@@ -11,9 +11,6 @@ use Rattle.codes.proofs.Fetches.{fixed-outside, fixed-inside}
 use borrow.Author.Needs.{needs}
 use Rattle.codes.proofs.fetching.fetch_fixed.Statement.{statement}
 use Rattle.codes.proofs.fetching.fetch_fixed.Tie as tie
-
-positive : (w : ℕ) → (w ≡ 0 → ⊥) → 1 ≤ w
-positive w h = omega arith
 
 returns : tie.Need-returns
 unfolding number
@@ -27,7 +24,7 @@ mul-end c = search needs
 returns-2 : tie.Need-returns-2
 returns-2 c =
     let a = c .before .before .before .args in
-    let m = mul-le-mul-left (a .index + 1) (positive (a .w) (c .before .if1 .left)) in
+    let m = mul-le-mul-left (a .index + 1) (pos-of-ne-zero (c .before .if1 .left)) in
     sym (fixed-outside (a .w) (a .index) (bitsOf (a .part .now)) (rw (length-fixed 8 (a .part .now)) (omega arith)))
 
 add-if3 : tie.Need-add-if3

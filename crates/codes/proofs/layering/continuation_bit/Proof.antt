@@ -8,8 +8,8 @@ use borrow.Author.Tests.{eq-eqb, ne-eqb}
 use Rattle.codes.proofs.layering.continuation_bit.Statement.{statement}
 use Rattle.codes.proofs.layering.continuation_bit.Tie as tie
 
-wide-requires : tie.Need-wide-requires
-wide-requires c κs = search needs
+wide-value-requires : tie.Need-wide-value-requires
+wide-value-requires c κs = search needs
 
 returns : tie.Need-returns
 returns c =
@@ -24,4 +24,4 @@ returns-2 c =
     rw (ne-eqb (a .v / 2 ^ (a .radix .bits)) 0 (omega arith)) (omega arith)
 
 pub continuation-bit-spec : {M : Type 1} → statement M
-continuation-bit-spec = tie.close (tie.spec wide-requires returns returns-2)
+continuation-bit-spec = tie.close (tie.spec wide-value-requires returns returns-2)

@@ -9,7 +9,8 @@ use lib.Pow.{pow-mono, shl-lt}
 use lib.Seq.{drop-set-lt, getD-drop}
 use Rattle.codes.specs.Bits.{number, fixed}
 use Rattle.codes.specs.Codes.{rest}
-use Rattle.codes.proofs.LayersWritten.{number-fixed-lt, number-fixed-suc, rest-suc}
+use Rattle.codes.proofs.Bits.{bits-fixed, number-lt}
+use Rattle.codes.proofs.LayersWritten.{length-fixed-take, number-fixed-suc, rest-suc}
 use Rattle.codes.proofs.Lists.{drop-later, getD-there}
 use Rattle.codes.proofs.layering.joined_chunks.Statement.{statement}
 use Rattle.codes.proofs.layering.joined_chunks.Tie as tie
@@ -33,7 +34,7 @@ next b vs us from i h n e =
     let l : i + 1 ≤ length ws = simp length-drop (omega arith) in
     let x = getD-there vs us (from + i) e 0 ∙ sym (getD-drop from us i 0) in
     let s = number-fixed-suc b ws i (omega arith) in
-    rw x (s, rw s (number-fixed-lt b ws (i + 1) l))
+    rw x (s, rw s (number-lt (fixed b (take (i + 1) ws)) (bits-fixed b (take (i + 1) ws)) (length-fixed-take b ws (i + 1) l)))
 
 loop-holds : tie.Need-loop-holds Inv-loop μ-loop
 unfolding number fixed rest

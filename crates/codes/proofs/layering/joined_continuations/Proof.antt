@@ -2,11 +2,13 @@
 use native.Mathlib.Omega.{arith}
 use mathlib.Core.Path.{_≡_, refl}
 use Prim.Native.Nat.{_+_, _-_, _^_, _≤_, _<_}
-use lib.ListN.{drop, length-drop}
+use lib.ListN.{take, drop, length-drop}
 use lib.Pow.{pow-mono}
 use lib.Seq.{getD-drop}
 use Rattle.codes.specs.Bits.{number}
-use Rattle.codes.proofs.LayersWritten.{continuations, number-continuations-lt, number-continuations-suc}
+use Rattle.codes.proofs.Bits.{number-lt}
+use Rattle.codes.proofs.Layers.{bits-continuations}
+use Rattle.codes.proofs.LayersWritten.{continuations, length-continuations, number-continuations-suc}
 use Rattle.codes.proofs.layering.joined_continuations.Statement.{statement}
 use Rattle.codes.proofs.layering.joined_continuations.Tie as tie
 
@@ -51,7 +53,8 @@ loop-again c =
     let vs = drop (a .from) (a .values .now) in
     let g = getD-drop (a .from) (a .values .now) (l .i) 0 in
     let e = rw g at (number-continuations-suc (a .radix .bits) vs (l .i) (simp length-drop (omega arith))) in
-    let lt = number-continuations-lt (a .radix .bits) vs (l .i + 1) (simp length-drop (omega arith)) in
+    let n = length-continuations (a .radix .bits) vs (l .i + 1) (simp length-drop (omega arith)) in
+    let lt = number-lt (continuations (a .radix .bits) vs (l .i + 1)) (bits-continuations (a .radix .bits) (take (l .i + 1) vs)) n in
     (omega arith, omega (arith, e), omega (arith, e, pow-mono {i = l .i + 1} {j = 32} (omega arith)))
 
 returns : tie.Need-returns Inv-loop μ-loop

@@ -7,8 +7,9 @@ use lib.ListN.{length, take, drop, length-drop}
 use Rattle.codes.specs.Bits.{fixed}
 use Rattle.codes.specs.Codes.{rest}
 use Rattle.codes.specs.Written.{Wrote}
+use Rattle.codes.proofs.Bits.{bits-fixed, number-lt, bits-number}
 use Rattle.codes.proofs.BitsWritten.{wrote-nothing, wrote-both}
-use Rattle.codes.proofs.LayersWritten.{fixed-add, length-fixed-take, number-fixed-lt, bits-fixed-take, rest-add}
+use Rattle.codes.proofs.LayersWritten.{fixed-add, length-fixed-take, rest-add}
 use Rattle.codes.proofs.Lists.{drop-later}
 use Rattle.codes.proofs.layering.put_chunks.Statement.{statement}
 use Rattle.codes.proofs.layering.put_chunks.Tie as tie
@@ -64,8 +65,10 @@ put-requires c κs =
     let w = l .inv .5 in
     let t : k ≤ 32 / a .radix .bits = omega arith in
     let s : l .i + k ≤ a .n = omega arith in
+    let vs = take k (drop (l .i) (l .values)) in
+    let n = length-fixed-take (a .radix .bits) (drop (l .i) (l .values)) k (simp length-drop (omega arith)) in
     let m : l .i * a .radix .bits + k * a .radix .bits ≤ a .n * a .radix .bits = rw (add-mul (l .i) k (a .radix .bits)) at (mul-le-mul-right (a .radix .bits) s) in (
-      (fits (a .radix .bits) k t, rw (g .ensures .0) (number-fixed-lt (a .radix .bits) (drop (l .i) (l .values)) k (simp length-drop (omega arith))), omega arith),
+      (fits (a .radix .bits) k t, rw (g .ensures .0) (number-lt (fixed (a .radix .bits) vs) (bits-fixed (a .radix .bits) vs) n), omega arith),
       omega (arith, length-fixed-take (a .radix .bits) (a .values .now) (l .i) (omega arith)),
     )
 
@@ -87,7 +90,9 @@ loop-again c =
     let k = c .before .before .before .before .before .before .before .before .least .result in
     let g = c .before .before .before .before .before .before .joined-chunks in
     let u = c .before .before .put .ensures in
-    let bs = bits-fixed-take (a .radix .bits) (drop (l .i) us) k (simp length-drop (omega arith)) in (
+    let vs = take k (drop (l .i) us) in
+    let n = length-fixed-take (a .radix .bits) (drop (l .i) us) k (simp length-drop (omega arith)) in
+    let bs = bits-number (fixed (a .radix .bits) vs) (bits-fixed (a .radix .bits) vs) n in (
       omega arith,
       omega arith,
       omega arith,

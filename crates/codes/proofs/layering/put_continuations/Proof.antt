@@ -2,10 +2,12 @@
 use native.Mathlib.Omega.{arith}
 use mathlib.Core.Path.{_≡_}
 use Prim.Native.Nat.{_-_, _≤_, _<_}
-use lib.ListN.{drop, length-drop}
+use lib.ListN.{take, drop, length-drop}
 use Rattle.codes.specs.Written.{Wrote}
+use Rattle.codes.proofs.Bits.{number-lt, bits-number}
 use Rattle.codes.proofs.BitsWritten.{wrote-nothing, wrote-both}
-use Rattle.codes.proofs.LayersWritten.{continuations, length-continuations, number-continuations-lt, continuations-back, continuations-add}
+use Rattle.codes.proofs.Layers.{bits-continuations}
+use Rattle.codes.proofs.LayersWritten.{continuations, length-continuations, continuations-add}
 use Rattle.codes.proofs.layering.put_continuations.Statement.{statement}
 use Rattle.codes.proofs.layering.put_continuations.Tie as tie
 
@@ -35,7 +37,9 @@ put-requires c κs =
     let a = c .before .before .before .before .before .before .before .args in
     let k = c .before .before .least .result in
     let w = l .inv .1 in
-    let x = number-continuations-lt (a .radix .bits) (drop (l .i) (a .values .now)) k (simp length-drop (omega arith)) in
+    let vs = drop (l .i) (a .values .now) in
+    let n = length-continuations (a .radix .bits) vs k (simp length-drop (omega arith)) in
+    let x = number-lt (continuations (a .radix .bits) vs k) (bits-continuations (a .radix .bits) (take k vs)) n in
     omega (arith, c .joined-continuations .ensures, length-continuations (a .radix .bits) (a .values .now) (l .i) (omega arith))
 
 add-i : tie.Need-add-i Inv-loop μ-loop
@@ -50,7 +54,9 @@ loop-again c =
     let a = c .before .before .before .before .before .before .before .before .before .before .args in
     let k = c .before .before .before .before .before .least .result in
     let u = c .before .before .put .ensures in
-    let b = continuations-back (a .radix .bits) (drop (l .i) (a .values .now)) k (simp length-drop (omega arith)) in
+    let vs = drop (l .i) (a .values .now) in
+    let n = length-continuations (a .radix .bits) vs k (simp length-drop (omega arith)) in
+    let b = bits-number (continuations (a .radix .bits) vs k) (bits-continuations (a .radix .bits) (take k vs)) n in
     (omega arith, rw (continuations-add (a .radix .bits) (a .values .now) (l .i) k) (wrote-both (l .inv .1) (rw (c .before .before .before .joined-continuations .ensures, b) at (u .0))), u .1)
 
 same-length : tie.Need-same-length Inv-loop μ-loop

@@ -8,7 +8,8 @@ use lib.Seq.{getD-set-same}
 use Rattle.codes.specs.Codes.{rest}
 use Rattle.codes.specs.Measure.{Tallied}
 use Rattle.codes.proofs.Layers.{within-more, rest-none}
-use Rattle.codes.proofs.Tallies.{zeros-at, measured-more}
+use Rattle.codes.proofs.Lists.{zeros-at}
+use Rattle.codes.proofs.Tallies.{measured-more}
 use Rattle.codes.proofs.measuring.sums.Statement.{statement}
 use Rattle.codes.proofs.measuring.sums.Tie as tie
 

@@ -5,7 +5,8 @@ use native.Mathlib.Omega.{arith}
 use lib.ListN.{length, take, getD, length-set}
 use lib.Seq.{length-take-le, take-length}
 use Rattle.codes.specs.Measure.{tally}
-use Rattle.codes.proofs.Tallies.{tally-le, tally-more, zeros-at}
+use Rattle.codes.proofs.Lists.{zeros-at}
+use Rattle.codes.proofs.Tallies.{tally-le, tally-more}
 use Rattle.codes.proofs.measuring.tally.Statement.{statement}
 use Rattle.codes.proofs.measuring.tally.Tie as tie
 

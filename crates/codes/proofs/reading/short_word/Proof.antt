@@ -25,14 +25,8 @@ loop-holds c = (omega arith, omega arith, refl)
 mul-acc : tie.Need-mul-acc Inv-loop μ-loop
 mul-acc c = omega arith
 
-shared-slice-read-wide : tie.Need-shared-slice-read-wide Inv-loop μ-loop
-shared-slice-read-wide c = omega arith
-
-wide-requires : tie.Need-wide-requires Inv-loop μ-loop
-wide-requires c κs = omega arith
-
-cast-acc : tie.Need-cast-acc Inv-loop μ-loop
-cast-acc c = omega arith
+byte-requires : tie.Need-byte-requires Inv-loop μ-loop
+byte-requires c κs = omega arith
 
 add-acc : tie.Need-add-acc Inv-loop μ-loop
 add-acc c = omega arith
@@ -45,8 +39,8 @@ loop-less c = omega arith
 
 loop-again : tie.Need-loop-again Inv-loop μ-loop
 loop-again c =
-    let bytes = c .before .before .before .before .before .args .part .now in
-    let i = c .before .before .before .loop .i in
+    let bytes = c .before .before .before .before .args .part .now in
+    let i = c .before .before .loop .i in
     let next = rw zero-add at (number-next bytes 0 i) in
     let lt : number (take (i * 8) (bitsOf bytes)) < 2 ^ (i * 8) = part-lt bytes 0 (i * 8) in
     let small : number (take (i * 8) (bitsOf bytes)) < 2 ^ 48 = omega (arith, pow-mono {i = i * 8} {j = 48} (omega arith)) in
@@ -65,9 +59,7 @@ short-word-spec =
     μ-loop
     loop-holds
     mul-acc
-    shared-slice-read-wide
-    wide-requires
-    cast-acc
+    byte-requires
     add-acc
     add-i
     loop-less

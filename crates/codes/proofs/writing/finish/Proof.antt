@@ -8,8 +8,8 @@ use lib.ListN.{length, take, set}
 use lib.Seq.{drop-set-lt, take-suc-set}
 use Rattle.codes.specs.Bits.{padded}
 use Rattle.codes.specs.Written.{written}
+use Rattle.codes.proofs.Bits.{within-take}
 use Rattle.codes.proofs.BitsWritten.{padded-whole, padded-last}
-use Rattle.codes.proofs.Layers.{within-take}
 use Rattle.codes.proofs.Lists.{drop-later}
 use borrow.Author.Needs.{needs}
 use Rattle.codes.proofs.writing.finish.Statement.{statement}
