@@ -13,12 +13,12 @@ use Rattle.tree.specs.declared.shape.Stretch.{Stretch}
 use Rattle.tree.specs.declared.nodes.Levels.{Levels}
 use Rattle.tree.specs.declared.targets.Remembered.{Remembered}
 use Rattle.tree.specs.Shape.{height, rootPlace, childOf, stretch}
-use Rattle.tree.specs.Levels.{fetchedAt, Fits}
-use Rattle.tree.specs.Times.{Time, known, nodeTime}
+use Rattle.tree.specs.Levels.{Fits}
+use Rattle.tree.specs.Times.{Time, known, timesIn}
 use Rattle.tree.specs.Walks.{Answer, isBelow}
-use Rattle.tree.specs.Sweeps.{dropped, positionThen, sweepFrom}
+use Rattle.tree.specs.Sweeps.{Sweep, dropped, positionThen, sweepFrom}
 use Rattle.tree.specs.Standing.{Stands}
-use Rattle.tree.specs.Remembering.{entries, keptIn, positionIn, positionBy, leftBy, Keeps, Resumes, Rests, targetIn, keptAfter, sweepOn}
+use Rattle.tree.specs.Remembering.{entries, keptIn, positionIn, positionBy, leftBy, Keeps, Resumes, Rests, startAt, targetIn, keptAfter}
 use Rattle.tree.proofs.Stretches.{stretch-child, rank-in}
 use Rattle.tree.proofs.Walks.{child-bounds, parent-of, height-child}
 use Rattle.tree.proofs.NodeFetches.{pins-bound}
@@ -45,6 +45,10 @@ left-le times t (suc c) = go (ltb (getD times c 0) t) (left-le times t c)
     go true h = omega arith
     go false h = le-refl (suc c)
 
+-- a sweep with k nodes opened, which goes on from what is remembered
+abbrev pub sweepOn : Levels → List ℕ → Remembered → Bool → ℕ → List ℕ → Sweep
+sweepOn levels s w first k ts = sweepFrom (levels .pins) (timesIn levels s) (startAt (levels .pins) first) (keptIn w) k ts
+
 module _ (levels : Levels) (s : List ℕ) where
   abbrev n : ℕ
   n = levels .pins
@@ -53,7 +57,7 @@ module _ (levels : Levels) (s : List ℕ) where
 
   module _ (w : Remembered) (k : Keeps levels s w) (t : ℕ) where
     abbrev read : ℕ → Time
-    read = nodeTime (fetchedAt levels s)
+    read = timesIn levels s
 
     -- the node to go on from
     abbrev onFrom : ℕ → ℕ → ℕ → ℕ
@@ -150,32 +154,33 @@ module _ (levels : Levels) (s : List ℕ) where
           few = omega (arith, r .few, position-falls w (r .keeps) (w .count) m (le-refl (w .count)) h);
         }
 
-  -- the numbers that the code takes from the arrays, where m nodes are left and one at least is dropped
-  pub record Onward (w : Remembered) (m : ℕ) : Type 0 where
-    pub less : m < w .count
-    pub room : m < 16
-    pub node-in : getD (w .nodes) m 0 < 65536
-    pub start-in : getD (w .ranks) m 0 + 1 ≤ positionIn (w .ranks) m n
-    pub end-in : positionIn (w .ranks) m n < 65536
-
-  pub onward-bounds : (w : Remembered) (k : ℕ) → Rests levels s w k → Fits levels s → (t m : ℕ) → m ≡ leftBy (w .times) t (w .count)
-      → (m ≡ w .count → ⊥) → Onward w m
-  onward-bounds w k r f t m e d =
-      let h : m < w .count = omega (arith, left-le (w .times) t (w .count)) in
-      let few = pins-bound levels s f in
-      let i = onward-in w k r m h in
-      record {
-        less = h;
-        room = omega (arith, keeps-few levels s w f (r .keeps));
-        node-in = omega (arith, r .keeps .entry m h .among);
-        start-in = i .0;
-        end-in = omega arith;
-      }
-
   -- ---- a target of a sweep
 
   -- by what it answers
   pub sweep-next : (w : Remembered) (first : Bool) (k t : ℕ) (ts : List ℕ) (a : Answer) → targetIn levels s w first t k ≡ a
-      → sweepOn levels s w first k (t ∷ ts) ≡ positionThen a (λ j. sweepFrom n (nodeTime (fetchedAt levels s)) (suc n) (keptAfter levels s w first t) j ts)
+      → sweepOn levels s w first k (t ∷ ts) ≡ positionThen a (λ j. sweepFrom n (timesIn levels s) (suc n) (keptAfter levels s w first t) j ts)
   unfolding sweepFrom
   sweep-next w first k t ts a e = rw e
+
+-- ---- the numbers that the code takes from the arrays, where m nodes are left and one at least is dropped
+
+pub record Onward (levels : Levels) (w : Remembered) (m : ℕ) : Type 0 where
+  pub less : m < w .count
+  pub under-16 : m < 16
+  pub node-in : getD (w .nodes) m 0 < 65536
+  pub start-in : getD (w .ranks) m 0 + 1 ≤ positionIn (w .ranks) m (levels .pins)
+  pub end-in : positionIn (w .ranks) m (levels .pins) < 65536
+
+pub onward-bounds : {levels : Levels} {s : List ℕ} {w : Remembered} {k m : ℕ} → Rests levels s w k → Fits levels s → (t : ℕ) → m ≡ leftBy (w .times) t (w .count)
+    → (m ≡ w .count → ⊥) → Onward levels w m
+onward-bounds {levels} {s} {w} {k} {m} r f t e d =
+    let h : m < w .count = omega (arith, left-le (w .times) t (w .count)) in
+    let few = pins-bound levels s f in
+    let i = onward-in levels s w k r m h in
+    record {
+      less = h;
+      under-16 = omega (arith, keeps-few levels s w f (r .keeps));
+      node-in = omega (arith, r .keeps .entry m h .among);
+      start-in = i .0;
+      end-in = omega arith;
+    }

@@ -1,18 +1,20 @@
 -- What filling the buffer node by node leaves in it.
 use mathlib.Core.Path.{_≡_, refl, sym, ap, _∙_}
 use mathlib.Core.Logic.{inl, inr}
-use mathlib.Core.Bool.{true, false}
+use mathlib.Core.Bool.{Bool, true, false}
 use mathlib.Core.List.{List, _++_}
-use Prim.Native.Nat.{ℕ, suc, _+_, _-_, _*_, _/_, _≤_, _<_}
+use Prim.Native.Nat.{ℕ, suc, _+_, _-_, _*_, _≤_, _<_}
 use native.Mathlib.Decide.{decLt, ℕ-discrete}
 use native.Mathlib.Omega.{arith}
 use lib.ListN.{length, getD, drop, set, length-set, length-append, length-drop, List·getD-append}
 use lib.Seq.{ext-getD, getD-append-add, getD-drop, getD-set-same, getD-set-other}
-use Rattle.tree.specs.Shape.{rootPlace, childOf, StretchIs}
+use Rattle.tree.specs.Shape.{rootPlace, childOf}
 use Rattle.tree.specs.Stored.{timeOf, timeAbove, stored, storedValues}
+use Rattle.tree.specs.Standing.{StretchIs}
 use Rattle.tree.specs.Filled.{Under, here, below, Correct, Filled}
 use Rattle.tree.proofs.Heights.{place-small}
-use Rattle.tree.proofs.Stretches.{node-of-pins, past-nodes, is-left, rank-is}
+use Rattle.tree.proofs.Stretches.{node-of-pins, past-nodes, is-child, rank-is}
+use Rattle.tree.proofs.Walks.{child-bounds, parent-of}
 use Rattle.tree.proofs.Contents.{above-child}
 use Rattle.tree.proofs.LevelValues.{length-stored, getD-stored}
 use Rattle.tree.proofs.Ranks.{under-root, under-out}
@@ -95,25 +97,22 @@ module _ (xs : List ℕ) where
 
 -- ---- one node
 
-module _ (xs : List ℕ) (v start pins : ℕ) (one : 1 ≤ v) (e : StretchIs (length xs) v start pins) where
+module _ (xs : List ℕ) {v start pins : ℕ} (one : 1 ≤ v) (e : StretchIs (length xs) v start pins) where
   pub fill-past : pins ≡ 0 → length xs < v
-  fill-past z = past-nodes (length xs) v one (e .1 ∙ z)
+  fill-past z = past-nodes (length xs) v one (rw e z)
 
   pub fill-node : 1 ≤ pins → v ≤ length xs
-  fill-node h = node-of-pins (length xs) v (rw (e .1) h)
+  fill-node h = node-of-pins (length xs) v (rw e h)
 
   pub fill-time : getD xs (start + rootPlace pins - 1) 0 ≡ timeOf xs v
   unfolding timeOf
-  fill-time = rw (rank-is (length xs) v start pins e)
+  fill-time = rw (rank-is (length xs) v e)
 
--- a node with one pin has no children
-pub fill-leaf : (xs : List ℕ) (v start pins : ℕ) → 1 ≤ v → StretchIs (length xs) v start pins → pins ≡ 1 → length xs < 2 * v
-fill-leaf xs v start pins one e p =
-    let z : rootPlace pins - 1 ≡ 0 = rw p (omega (arith, place-small 1 (omega arith))) in
-    fill-past xs (2 * v) start (rootPlace pins - 1) (omega arith) (is-left (length xs) v start pins one e) z
+  -- a node with one pin has no children
+  pub fill-leaf : pins ≡ 1 → length xs < 2 * v
+  unfolding childOf
+  fill-leaf p =
+      past-nodes (length xs) (2 * v) (omega arith) (rw (is-child false (length xs) one e, p) (omega (arith, place-small 1 (omega arith))))
 
-pub above-left : (xs : List ℕ) (v : ℕ) → 1 ≤ v → timeAbove xs (2 * v) ≡ timeOf xs v
-above-left xs v h = let e : 2 * v / 2 ≡ v = omega arith in above-child xs (2 * v) (omega arith) ∙ rw e
-
-pub above-right : (xs : List ℕ) (v : ℕ) → 1 ≤ v → timeAbove xs (2 * v + 1) ≡ timeOf xs v
-above-right xs v h = let e : (2 * v + 1) / 2 ≡ v = omega arith in above-child xs (2 * v + 1) (omega arith) ∙ rw e
+pub above-side : (right : Bool) (xs : List ℕ) (v : ℕ) → 1 ≤ v → timeAbove xs (childOf right v) ≡ timeOf xs v
+above-side right xs v h = above-child xs (childOf right v) (omega (arith, child-bounds right v)) ∙ rw (parent-of right v)

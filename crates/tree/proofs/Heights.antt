@@ -2,7 +2,7 @@
 use mathlib.Core.Path.{_≡_, _∙_}
 use mathlib.Core.Bool.{cond}
 use Prim.Native.Nat.{ℕ, zero, suc, _+_, _-_, _*_, _/_, _^_, _≤_, _<_, min}
-use native.Mathlib.Nat.{pow-succ'}
+use native.Mathlib.Nat.{lt-of-not-le, pow-succ'}
 use native.Mathlib.Decide.{decLt}
 use native.Mathlib.Omega.{arith}
 use lib.Dec.{ltb}
@@ -33,10 +33,7 @@ pub height-mono : (m n : ℕ) → m ≤ n → height m ≤ height n
 height-mono m n h = height-le m (height n) (omega (arith, height-bound n))
 
 pub height-above : (n k : ℕ) → 2 ^ k ≤ n → k < height n
-height-above n k h = elim (decLt k (height n)) [ yes l ↦ l | no l ↦ absurd (fewer (omega arith)) ]
-  where
-    fewer : height n ≤ k → ⊥
-    fewer l = omega (arith, pow-mono l, height-bound n)
+height-above n k h = lt-of-not-le (λ l. omega (arith, pow-mono l, height-bound n))
 
 -- the first node of level l is one of the nodes
 pub level-starts : (n l : ℕ) → 1 ≤ l → l ≤ height n → 2 ^ (l - 1) ≤ n
@@ -45,11 +42,8 @@ level-starts n l h k = elim (decLt n (2 ^ (l - 1))) [ yes lt ↦ absurd (omega (
 -- no other number is such a least one
 pub height-unique : (n m : ℕ) → n < 2 ^ m → 2 ^ m ≤ 2 * n + 1 → height n ≡ m
 height-unique n m lt le =
-    let a = height-le n m lt in
-    elim (decLt (height n) m) [ yes l ↦ absurd (fewer l) | no l ↦ omega arith ]
-  where
-    fewer : height n < m → ⊥
-    fewer l = omega (arith, pow-mono l, height-bound n)
+    let more : m < suc (height n) = lt-of-not-le (λ l. omega (arith, pow-mono l, height-bound n)) in
+    omega (arith, height-le n m lt)
 
 pub height-is : (k n : ℕ) → 2 ^ k ≤ n → n < 2 ^ suc k → height n ≡ suc k
 height-is k n lo hi = height-unique n (suc k) hi (omega arith)
@@ -98,7 +92,6 @@ place-of k m lo hi =
 pub record Half (m half : ℕ) : Type 0 where
   pub tall : 2 ≤ height m
   pub least : 2 * half ≤ m
-  pub below : m < 4 * half
   pub place : rootPlace m ≡ cond (ltb m (3 * half)) (m - half + 1) (2 * half)
 
 pub half-of : (m : ℕ) → 2 ≤ m → Half m (2 ^ (height m - 2))
@@ -108,7 +101,7 @@ half-of m h = let d = digits m (omega arith) in go (d .top) (d .is) (d .least) (
     go zero e a b = absurd (omega arith)
     go (suc k) e a b =
         let e₂ : height m - 2 ≡ k = omega arith in
-        rw e₂ record { tall = omega arith; least = omega arith; below = omega arith; place = place-of k m a b }
+        rw e₂ record { tall = omega arith; least = omega arith; place = place-of k m a b }
 
 pub place-small : (m : ℕ) → m < 2 → rootPlace m ≡ m
 unfolding rootPlace

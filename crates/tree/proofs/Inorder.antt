@@ -13,10 +13,10 @@ pub data Tree (n : ℕ) : ℕ → ℕ → ℕ → Type 0 where
   node : {v a b : ℕ} → 1 ≤ v → v ≤ n → Tree n (2 * v) a (rank n v) → Tree n (2 * v + 1) (suc (rank n v)) b → Tree n v a b
 
 tree-at : (n f v : ℕ) → n < v + f → 1 ≤ v → Tree n v (stretch n v .start) (stretch n v .start + stretch n v .pins)
-tree-at n zero v h b = let k : n < v = omega arith in out k (end k)
-  where
-    end : n < v → stretch n v .start ≡ stretch n v .start + stretch n v .pins
-    end k = omega (arith, no-pins n v k)
+tree-at n zero v h b =
+    let k : n < v = omega arith in
+    let e : stretch n v .start ≡ stretch n v .start + stretch n v .pins = omega (arith, no-pins n v k) in
+    out k e
 tree-at n (suc f) v h b = go (decLt n v) (tree-at n f (2 * v) (omega arith) (omega arith)) (tree-at n f (2 * v + 1) (omega arith) (omega arith))
   where
     go : Dec (n < v) → Tree n (2 * v) (stretch n (2 * v) .start) (stretch n (2 * v) .start + stretch n (2 * v) .pins)

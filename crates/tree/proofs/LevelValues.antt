@@ -82,11 +82,11 @@ level-above values d =
 
 -- a node stands on its level, and the level in the tree
 record On (n v l : ℕ) : Type 0 where
-  pub first : 1 ≤ l
-  pub last : l ≤ height n
-  pub low : firstOf l ≤ v
-  pub inside : v - firstOf l < countOf n l
-  pub fits : firstOf l - 1 + countOf n l ≤ n
+  first : 1 ≤ l
+  last : l ≤ height n
+  low : firstOf l ≤ v
+  inside : v - firstOf l < countOf n l
+  fits : firstOf l - 1 + countOf n l ≤ n
 
 on-level : (n v : ℕ) → 1 ≤ v → v ≤ n → On n v (height v)
 on-level n v h k =

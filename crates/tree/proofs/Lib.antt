@@ -1,4 +1,4 @@
--- Laws that belong to no one function, each file about what its name says; Promises proves what specs/Promises states.
+-- Laws that the proofs of the functions cite, each file about what its first line says; Promises proves what specs/Promises states.
 pub mod Buffers
 pub mod Contents
 pub mod Counts

@@ -9,8 +9,7 @@ use lib.ListN.{length, set, getD}
 use borrow.Author.Tests.{lt-ltb, le-ltb}
 use Rattle.tree.specs.declared.nodes.Levels.{Levels}
 use Rattle.tree.specs.Shape.{rootPlace, childOf, sideOf, rank}
-use Rattle.tree.specs.Levels.{fetchedAt}
-use Rattle.tree.specs.Times.{at, refused, nodeTime}
+use Rattle.tree.specs.Times.{at, refused, timesIn}
 use Rattle.tree.specs.Walks.{Answer, found, stopped}
 use Rattle.tree.specs.Buffers.{replaced}
 use Rattle.tree.specs.Listing.{Stop, nowhere, at as stop-at, accesses, timeThen, timesFrom, stopOr, stopFrom, endOf}
@@ -19,11 +18,11 @@ use Rattle.tree.proofs.Buffers.{replaced-around}
 use Rattle.tree.proofs.Steps.{stands-place, stands-rank, stands-node, stands-child, access-end, access-refused, access-step}
 
 -- what a later stretch adds, where the listing gets to it
-abbrev pub orLater : Stop → Stop → Stop
+abbrev orLater : Stop → Stop → Stop
 orLater nowhere later = later
 orLater (stop-at i r c) later = stop-at i r c
 
-abbrev pub unlessAt : Stop → List ℕ → List ℕ
+abbrev unlessAt : Stop → List ℕ → List ℕ
 unlessAt nowhere later = later
 unlessAt (stop-at i r c) later = []
 
@@ -102,14 +101,14 @@ module _ {levels : Levels} {s : List ℕ} {v depth start pins above : ℕ}
   node : v ≤ levels .pins
   node = stands-node w some
 
-  pub listed-refused : (r u : ℕ) → nodeTime (fetchedAt levels s) v ≡ refused r u
+  pub listed-refused : (r u : ℕ) → timesIn levels s v ≡ refused r u
       → (stopFrom (accesses levels s) pins start ≡ stop-at start r u) × (timesFrom (accesses levels s) pins start ≡ [])
   listed-refused r u e =
       let z : accesses levels s start ≡ stopped r u =
-      sym (reach start (omega arith) (omega arith)) ∙ access-refused (levels .pins) (nodeTime (fetchedAt levels s)) start depth v r u (w .one) node e in
+      sym (reach start (omega arith) (omega arith)) ∙ access-refused (levels .pins) (timesIn levels s) start depth v r u (w .one) node e in
       (stop-here (accesses levels s) pins start r u some z, times-here (accesses levels s) pins start r u some z)
 
-  module _ (x : ℕ) (e : nodeTime (fetchedAt levels s) v ≡ at x) (place : ℕ) (p : place ≡ rootPlace pins) where
+  module _ (x : ℕ) (e : timesIn levels s v ≡ at x) (place : ℕ) (p : place ≡ rootPlace pins) where
     place-is : (1 ≤ place) × (place ≤ pins)
     place-is = rw p (stands-place w node)
 
@@ -120,11 +119,11 @@ module _ {levels : Levels} {s : List ℕ} {v depth start pins above : ℕ}
     reach-child : (right : Bool) → Reaches levels s (childOf right v) (depth + 1) (sideOf right (record { start = start; pins = pins }))
     reach-child true i lo hi =
         let r : rank (levels .pins) v < i = omega (arith, rank-is, place-is) in
-        rw (lt-ltb (rank (levels .pins) v) i r) at (sym (access-step (levels .pins) (nodeTime (fetchedAt levels s)) i depth v x (w .one) node e (λ z. omega arith)))
+        rw (lt-ltb (rank (levels .pins) v) i r) at (sym (access-step (levels .pins) (timesIn levels s) i depth v x (w .one) node e (λ z. omega arith)))
         ∙ reach i (omega arith) (omega (arith, place-is))
     reach-child false i lo hi =
         let r : i < rank (levels .pins) v = omega (arith, rank-is, place-is) in
-        rw (le-ltb (rank (levels .pins) v) i (omega arith)) at (sym (access-step (levels .pins) (nodeTime (fetchedAt levels s)) i depth v x (w .one) node e (λ z. omega arith)))
+        rw (le-ltb (rank (levels .pins) v) i (omega arith)) at (sym (access-step (levels .pins) (timesIn levels s) i depth v x (w .one) node e (λ z. omega arith)))
         ∙ reach i (omega arith) (omega (arith, place-is))
 
     pub stands-left : Stands levels s (2 * v) (depth + 1) (record { start = start; pins = place - 1 }) x × Reaches levels s (2 * v) (depth + 1) (record { start = start; pins = place - 1 })
@@ -146,7 +145,7 @@ module _ {levels : Levels} {s : List ℕ} {v depth start pins above : ℕ}
       time-here : accesses levels s (start + (place - 1)) ≡ found x (depth + 1)
       time-here =
           sym (reach (start + (place - 1)) (omega arith) (omega (arith, place-is)))
-          ∙ access-end (levels .pins) (nodeTime (fetchedAt levels s)) (start + (place - 1)) depth v x (w .one) node e rank-is
+          ∙ access-end (levels .pins) (timesIn levels s) (start + (place - 1)) depth v x (w .one) node e rank-is
 
       stop-is : stopFrom (accesses levels s) pins start ≡ orLater (stopFrom (accesses levels s) (place - 1) start) (stopFrom (accesses levels s) (pins - place) (start + place))
       stop-is = rw (split, next) at (stop-around (accesses levels s) (place - 1) (pins - place) start x (depth + 1) time-here)

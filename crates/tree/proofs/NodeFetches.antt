@@ -37,8 +37,8 @@ pub record Level (at : Levels) (s : List ℕ) (d : ℕ) : Type 0 where
 pub pins-bound : (at : Levels) (s : List ℕ) → Fits at s → at .pins < 65536
 pins-bound at s f = omega (arith, height-bound (at .pins), pow-mono (f .height-fits))
 
-pub level-fits : (at : Levels) (s : List ℕ) (d v : ℕ) → Fits at s → 2 ^ d ≤ v → v ≤ at .pins → Level at s d
-level-fits at s d v f lo hi =
+pub level-fits : {at : Levels} {s : List ℕ} {d v : ℕ} → Fits at s → 2 ^ d ≤ v → v ≤ at .pins → Level at s d
+level-fits {at} {s} {d} f lo hi =
     let h = height-above (at .pins) d (omega arith) in
     record {
       deep = omega (arith, f .height-fits);

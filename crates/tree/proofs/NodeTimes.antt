@@ -1,4 +1,4 @@
--- A node's time, from its parent's.
+-- A node's time follows from its parent's and what is fetched for it.
 use mathlib.Core.Path.{_≡_}
 use Prim.Native.Nat.{ℕ, _/_, _≤_}
 use Rattle.codes.specs.Fetch.{Fetched}

@@ -1,5 +1,5 @@
 -- The promises of specs/Promises.
-use mathlib.Core.Path.{_≡_, sym, ap, subst, _∙_}
+use mathlib.Core.Path.{_≡_, refl, sym, ap, subst, _∙_}
 use mathlib.Core.List.{List}
 use Prim.Native.Nat.{ℕ, zero, suc, _-_, _^_, _≤_, min}
 use native.Mathlib.Nat.{le-refl, zero-add}
@@ -11,16 +11,16 @@ use Rattle.tree.specs.declared.nodes.Levels.{Levels}
 use Rattle.tree.specs.Shape.{rank}
 use Rattle.tree.specs.Stored.{timeOf}
 use Rattle.tree.specs.Levels.{firstOf, levelOf, fetchedAt}
-use Rattle.tree.specs.Times.{at, nodeTime}
+use Rattle.tree.specs.Times.{at, timesIn, known}
 use Rattle.tree.specs.Listing.{nowhere, accesses, timesFrom, stopFrom}
-use Rattle.tree.specs.Walks.{toward, accessAnswer, searchNodes, searchAnswer}
+use Rattle.tree.specs.Walks.{toward, lastOf, accessAnswer, searchNodes, searchAnswer}
 use Rattle.tree.specs.Sweeps.{sweep}
-use Rattle.tree.specs.Promises.{HeightLeast, Shape, Held, Contents, SearchFinds, AccessOpens, StoredLevels, Lists, SweepFinds}
+use Rattle.tree.specs.Promises.{HeightLeast, Shape, Held, Contents, SearchFinds, AccessOpens, StoredLevels, ListingFinds, SweepFinds}
 use Rattle.tree.proofs.Heights.{digits, height-bound, height-le, height-is}
 use Rattle.tree.proofs.Stretches.{stretch-root, stretch-left, stretch-right, node-iff}
 use Rattle.tree.proofs.Inorder.{tree}
 use Rattle.tree.proofs.Ranks.{rank-lt, rank-found}
-use Rattle.tree.proofs.Walks.{walk-length}
+use Rattle.tree.proofs.Walks.{walk-length, toward-on, Found, met-found}
 use Rattle.tree.proofs.Paths.{toward-rank, rank-once, fromRoot-length, access-answer, search-path, search-answer}
 use Rattle.tree.proofs.Sweeps.{sweep-answer, different-pins, different-heights}
 use Rattle.tree.proofs.Contents.{times-back}
@@ -65,32 +65,36 @@ shape n = record {
 -- ---- the tree of a list
 
 module _ (levels : Levels) (s xs : List ℕ) (held : Held levels s xs) where
-  node-times : (v : ℕ) → 1 ≤ v → v ≤ length xs → nodeTime (fetchedAt levels s) v ≡ at (timeOf xs v)
+  node-times : (v : ℕ) → 1 ≤ v → v ≤ length xs → timesIn levels s v ≡ at (timeOf xs v)
   node-times = times-back xs (held .in-order) (held .times) (fetchedAt levels s) (fetched-stored levels s xs (held .stores))
 
 pub contents : Contents
 contents = record {
   node = node-times;
   access = λ levels s xs held i h.
-      ap (λ (n : ℕ). accessAnswer n (nodeTime (fetchedAt levels s)) i) (held .stores .pins-are)
-      ∙ access-answer xs (nodeTime (fetchedAt levels s)) (node-times levels s xs held) i h;
+      ap (λ (n : ℕ). accessAnswer n (timesIn levels s) i) (held .stores .pins-are)
+      ∙ access-answer xs (timesIn levels s) (node-times levels s xs held) i h;
 }
 
 pub search-finds : SearchFinds
 search-finds = record {
   nodes = λ levels s xs held t.
-      ap (λ (n : ℕ). searchNodes n (nodeTime (fetchedAt levels s)) t 1) (held .stores .pins-are)
-      ∙ search-path xs (nodeTime (fetchedAt levels s)) (node-times levels s xs held) t;
+      ap (λ (n : ℕ). searchNodes n (timesIn levels s) t 1) (held .stores .pins-are)
+      ∙ search-path xs (timesIn levels s) (node-times levels s xs held) t;
   answer = λ levels s xs held t.
-      ap (λ (n : ℕ). searchAnswer n (nodeTime (fetchedAt levels s)) t) (held .stores .pins-are)
-      ∙ search-answer xs (nodeTime (fetchedAt levels s)) (node-times levels s xs held) (held .in-order) t;
+      ap (λ (n : ℕ). searchAnswer n (timesIn levels s) t) (held .stores .pins-are)
+      ∙ search-answer xs (timesIn levels s) (node-times levels s xs held) (held .in-order) t;
 }
 
 pub access-opens : AccessOpens
-unfolding toward
+unfolding toward accessAnswer
 access-opens = record {
   nodes = toward-rank;
+  some = λ n i h. rw (toward-on n i 1 (le-refl 1) h) (omega arith);
   few = λ n i. walk-length n (λ v. eqb (rank n v) i) (λ v. ltb (rank n v) i) 1 (le-refl 1);
+  count = λ n time i t k e.
+      let nodes = toward n i in
+      subst (Found (λ x m. m ≡ length nodes)) e (met-found (λ x m. m ≡ length nodes) time (known (time (lastOf 0 nodes))) (length nodes) refl nodes);
 }
 
 pub stored-levels : StoredLevels
@@ -103,8 +107,8 @@ listing levels s xs held =
     subst (λ (k : ℕ). (timesFrom (accesses levels s) k 0 ≡ xs) × (stopFrom (accesses levels s) k 0 ≡ nowhere)) (sym (held .stores .pins-are))
     (times-found (accesses levels s) xs 0 (λ j. length (toward (length xs) j)) (λ j h. rw (zero-add j) (contents .access levels s xs held j h)))
 
-pub lists : Lists
-lists = record {
+pub listing-finds : ListingFinds
+listing-finds = record {
   count = λ answer k. rw (zero-add (length (timesFrom answer k 0)), zero-add k) at (times-end answer k 0);
   within = λ levels s k. times-within levels s k 0;
   times = λ levels s xs held. listing levels s xs held .0;
@@ -114,8 +118,8 @@ lists = record {
 pub sweep-finds : SweepFinds
 sweep-finds = record {
   answer = λ levels s xs held ts o.
-      ap (λ (n : ℕ). sweep n (nodeTime (fetchedAt levels s)) ts) (held .stores .pins-are)
-      ∙ sweep-answer xs (nodeTime (fetchedAt levels s)) (node-times levels s xs held) (held .in-order) ts o;
+      ap (λ (n : ℕ). sweep n (timesIn levels s) ts) (held .stores .pins-are)
+      ∙ sweep-answer xs (timesIn levels s) (node-times levels s xs held) (held .in-order) ts o;
   pins = different-pins;
   heights = different-heights;
 }

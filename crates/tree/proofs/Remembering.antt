@@ -14,11 +14,11 @@ use Rattle.tree.specs.declared.shape.Stretch.{Stretch}
 use Rattle.tree.specs.declared.nodes.Levels.{Levels}
 use Rattle.tree.specs.declared.targets.Remembered.{Remembered}
 use Rattle.tree.specs.declared.targets.Walked.{Walked}
-use Rattle.tree.specs.declared.targets.Swept.{Swept}
-use Rattle.tree.specs.declared.targets.Swept.the-variants.{Nodes}
+use Rattle.tree.specs.declared.targets.Ending.{Ending}
+use Rattle.tree.specs.declared.targets.Ending.the-variants.{Nodes}
 use Rattle.tree.specs.Shape.{childOf, sideOf, rank}
-use Rattle.tree.specs.Levels.{fetchedAt, Fits}
-use Rattle.tree.specs.Times.{at, nodeTime}
+use Rattle.tree.specs.Levels.{Fits}
+use Rattle.tree.specs.Times.{at, timesIn}
 use Rattle.tree.specs.Walks.{position}
 use Rattle.tree.specs.Standing.{Stands}
 use Rattle.tree.specs.Remembering.{nothing, entries, keptIn, positionIn, positionBy, Entry, Keeps, Resumes, Rests, RemembersBy, Remembers}
@@ -30,7 +30,7 @@ pub position-last : (ranks : List ℕ) (c n : ℕ) → 1 ≤ c → getD ranks (c
 position-last ranks zero n h = absurd (omega arith)
 position-last ranks (suc c) n h = let e : suc c - 1 ≡ c = omega arith in rw e
 
--- ---- a node withNode
+-- ---- a node more
 
 getD-before : (xs : List ℕ) (i c v : ℕ) → i < c → getD (set xs c v) i 0 ≡ getD xs i 0
 getD-before xs i c v h = getD-set-other xs c i v 0 (λ e. omega (arith, e))
@@ -81,7 +81,7 @@ module _ (levels : Levels) (s : List ℕ) where
           deep = rw same (e .deep);
         }
 
-  -- no withNode nodes are remembered than there are levels
+  -- no more nodes are remembered than there are levels
   pub keeps-few : (w : Remembered) → Fits levels s → Keeps levels s w → w .count ≤ 16
   keeps-few w f k = elim (ℕ-discrete (w .count) 0) [
     | yes e ↦ omega arith
@@ -108,7 +108,7 @@ module _ (levels : Levels) (s : List ℕ) where
 
   -- what a target that is not refused leaves
   pub remembers-opened : (r : Walked) (k : ℕ) (vs : List ℕ) → r .ending ≡ Nodes k → Remembers levels s r vs → (keptIn (r .kept) ≡ vs) × Rests levels s (r .kept) k
-  remembers-opened r k vs e h = subst (λ (e : Swept). RemembersBy levels s (r .kept) e vs) e h
+  remembers-opened r k vs e h = subst (λ (e : Ending). RemembersBy levels s (r .kept) e vs) e h
 
   pub resumes-root : (w : Remembered) → Keeps levels s w → w .count ≡ 0 → Resumes levels s w 1 (record { start = 0; pins = n }) 0
   resumes-root w k z = record {
@@ -122,14 +122,14 @@ module _ (levels : Levels) (s : List ℕ) where
 
 module _ {levels : Levels} {s : List ℕ} {w : Remembered} {v depth : ℕ} {here : Stretch} {above k : ℕ} (st : Stands levels s v depth here above)
     (r : Resumes levels s w v here k) (l : v ≤ levels .pins) (f : Fits levels s) where
-  pub room : w .count < 16
-  room = omega (arith, r .deep, height-mono v (levels .pins) l, f .height-fits)
+  pub count-under-16 : w .count < 16
+  count-under-16 = omega (arith, r .deep, height-mono v (levels .pins) l, f .height-fits)
 
   node-added : getD (set (w .nodes) (w .count) v) (w .count) 0 ≡ v
-  node-added = getD-set-same (w .nodes) (w .count) v 0 (rw (r .keeps .nodes-size) room)
+  node-added = getD-set-same (w .nodes) (w .count) v 0 (rw (r .keeps .nodes-size) count-under-16)
 
   rank-added : getD (set (w .ranks) (w .count) (rank (levels .pins) v)) (w .count) 0 ≡ rank (levels .pins) v
-  rank-added = getD-set-same (w .ranks) (w .count) (rank (levels .pins) v) 0 (rw (r .keeps .ranks-size) room)
+  rank-added = getD-set-same (w .ranks) (w .count) (rank (levels .pins) v) 0 (rw (r .keeps .ranks-size) count-under-16)
 
   resumes-right : Resumes levels s w (childOf true v) (sideOf true here) (k + 1)
   resumes-right =
@@ -141,7 +141,7 @@ module _ {levels : Levels} {s : List ℕ} {w : Remembered} {v depth : ℕ} {here
         few = omega (arith, r .few);
       }
 
-  resumes-left : (x : ℕ) → nodeTime (fetchedAt levels s) v ≡ at x → Resumes levels s (withNode levels s w v x) (childOf false v) (sideOf false here) (k + 1)
+  resumes-left : (x : ℕ) → timesIn levels s v ≡ at x → Resumes levels s (withNode levels s w v x) (childOf false v) (sideOf false here) (k + 1)
   resumes-left x e =
       let p = stands-place st l in
       let c = w .count in
@@ -149,7 +149,7 @@ module _ {levels : Levels} {s : List ℕ} {w : Remembered} {v depth : ℕ} {here
       let last : Entry levels s (withNode levels s w v x .nodes) (withNode levels s w v x .times) (withNode levels s w v x .ranks) c = record {
         one = rw node-added (st .one);
         among = rw node-added l;
-        time = rw (node-added, getD-set-same (w .times) c x 0 (rw (r .keeps .times-size) room)) e;
+        time = rw (node-added, getD-set-same (w .times) c x 0 (rw (r .keeps .times-size) count-under-16)) e;
         ranked = rw (node-added, rank-added);
         ends = rw (node-added, position-set (w .ranks) c c (rank (levels .pins) v) (levels .pins) (le-refl c), st .under) (r .ends);
         deep = rw node-added (r .deep);
@@ -170,10 +170,10 @@ module _ {levels : Levels} {s : List ℕ} {w : Remembered} {v depth : ℕ} {here
       }
 
   -- what is remembered after a step past a node with time x, for target t
-  abbrev pub after : ℕ → ℕ → Remembered
+  abbrev after : ℕ → ℕ → Remembered
   after x t = cond (ltb x t) w (withNode levels s w v x)
 
-  pub resumes-child : (x t : ℕ) → nodeTime (fetchedAt levels s) v ≡ at x
+  pub resumes-child : (x t : ℕ) → timesIn levels s v ≡ at x
       → Resumes levels s (after x t) (childOf (ltb x t) v) (sideOf (ltb x t) here) (k + 1)
   resumes-child x t e = go (ltb x t)
     where

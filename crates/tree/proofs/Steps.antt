@@ -1,4 +1,4 @@
--- One step of access and of a target, as their loops make it.
+-- One turn of the loops of access and of a target is one step of the definition.
 use mathlib.Core.Path.{_≡_, sym, ap, _∙_}
 use mathlib.Core.Bool.{Bool, cond}
 use mathlib.Core.List.{List, _∷_}
@@ -12,9 +12,10 @@ use lib.ListN.{length}
 use borrow.Author.Tests.{lt-ltb, le-ltb, eq-eqb, ne-eqb}
 use Rattle.tree.specs.declared.shape.Stretch.{Stretch}
 use Rattle.tree.specs.declared.nodes.Levels.{Levels}
+use Rattle.tree.specs.declared.nodes.Opened.{Opened}
 use Rattle.tree.specs.Shape.{height, rootPlace, childOf, sideOf, stretch, rank}
 use Rattle.tree.specs.Levels.{fetchedAt, Fits}
-use Rattle.tree.specs.Times.{Time, at, refused, under, known, nodeTime}
+use Rattle.tree.specs.Times.{Time, at, refused, timeOpened, under, known, timesIn}
 use Rattle.tree.specs.Walks.{Answer, found, stopped, met, towardFrom, toward, lastOf, accessAnswer, isBelow, searchNodes, remember, position, keptFrom, targetFrom}
 use Rattle.tree.specs.Standing.{Stands, accessFrom}
 use Rattle.tree.proofs.Heights.{height-is, digits, place-in}
@@ -27,7 +28,7 @@ use Rattle.tree.proofs.Walks.{child-bounds, parent-of, walk-out, walk-o
 
 -- at a node, by its number
 pub stands-at : (levels : Levels) (s : List ℕ) (v : ℕ) (here : Stretch) (above : ℕ) → 1 ≤ v → stretch (levels .pins) v ≡ here
-    → here .start + here .pins ≤ levels .pins → nodeTime (fetchedAt levels s) (v / 2) ≡ at above → Stands levels s v (height v - 1) here above
+    → here .start + here .pins ≤ levels .pins → timesIn levels s (v / 2) ≡ at above → Stands levels s v (height v - 1) here above
 stands-at levels s v here above h e i p =
     let d = digits v h in
     let top : height v - 1 ≡ d .top = omega (arith, d .is) in
@@ -68,13 +69,13 @@ module _ {levels : Levels} {s : List ℕ} {v depth : ℕ} {here : Stretch} {abov
   stands-rank = rw (w .under)
 
   pub stands-level : Fits levels s → v ≤ levels .pins → Level levels s depth
-  stands-level f k = level-fits levels s depth v f (w .low) k
+  stands-level f k = level-fits f (w .low) k
 
   -- what opening the node gives is its time
-  pub stands-opened : under v (at above) (fetchedAt levels s v) ≡ nodeTime (fetchedAt levels s) v
-  stands-opened = sym (time-step (fetchedAt levels s) v (w .one) ∙ rw (w .parent))
+  pub stands-opened : {o x : Opened} → timeOpened o ≡ under v (at above) (fetchedAt levels s v) → o ≡ x → timesIn levels s v ≡ timeOpened x
+  stands-opened e g = time-step (fetchedAt levels s) v (w .one) ∙ rw (w .parent) (sym e) ∙ ap timeOpened g
 
-  pub stands-child : (right : Bool) (t : ℕ) → v ≤ levels .pins → nodeTime (fetchedAt levels s) v ≡ at t
+  pub stands-child : (right : Bool) (t : ℕ) → v ≤ levels .pins → timesIn levels s v ≡ at t
       → Stands levels s (childOf right v) (depth + 1) (sideOf right here) t
   stands-child right t k e =
       let i = side-in right here (stands-pins k) in

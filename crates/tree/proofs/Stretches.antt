@@ -1,5 +1,5 @@
 -- The stretches of the nodes: node v is among 1 to n exactly where its stretch has pins.
-use mathlib.Core.Path.{_≡_, refl}
+use mathlib.Core.Path.{_≡_, ap, _∙_}
 use mathlib.Core.Logic.{_≢_, _↔_}
 use mathlib.Core.Bool.{Bool, true, false}
 use Prim.Native.Nat.{ℕ, zero, suc, _+_, _-_, _*_, _/_, _%_, _^_, _≤_, _<_, min}
@@ -11,7 +11,8 @@ use lib.Arith.{half-le}
 use lib.Pow.{pow-pos, pow-mono}
 use borrow.Author.Tests.{le-ltb}
 use Rattle.tree.specs.declared.shape.Stretch.{Stretch}
-use Rattle.tree.specs.Shape.{rootPlace, childOf, sideOf, stretchIn, stretch, StretchIs, rank}
+use Rattle.tree.specs.Shape.{rootPlace, childOf, sideOf, stretchIn, stretch, rank}
+use Rattle.tree.specs.Standing.{StretchIs}
 use Rattle.tree.proofs.Heights.{height-step, digits, place-law, place-in, place-small}
 
 -- ---- a stretch from its parent's
@@ -20,7 +21,7 @@ pub stretch-root : (n : ℕ) → stretch n 1 ≡ record { start = 0; pins = n }
 unfolding stretch stretchIn
 stretch-root n = rw (height-step 1 (le-refl 1))
 
-stretch-step : (n v : ℕ) → 2 ≤ v → stretch n v ≡ sideOf (eqb (v % 2) 1) (stretch n (v / 2))
+pub stretch-step : (n v : ℕ) → 2 ≤ v → stretch n v ≡ sideOf (eqb (v % 2) 1) (stretch n (v / 2))
 unfolding stretch stretchIn
 stretch-step n v h = rw (height-step v (omega arith), le-ltb v 2 h)
 
@@ -91,17 +92,11 @@ pins-at n j (suc d) k v ej lo hi a b = go (child v (omega (arith, pow-pos d))) (
 
 -- a node with no more than one pin has no children
 pins-child : (n v : ℕ) → 2 ≤ v → stretch n (v / 2) .pins < 2 → stretch n v .pins ≡ 0
-pins-child n v h p = go (child v h)
+pins-child n v h p = rw (stretch-step n v h) (go (eqb (v % 2) 1))
   where
-    go : Child v → stretch n v .pins ≡ 0
-    go (left u h e) =
-        let eu : v / 2 ≡ u = omega arith in
-        let p′ = rw eu at p in
-        rw (e, stretch-left n u h, place-small (stretch n u .pins) p′) (omega arith)
-    go (right u h e) =
-        let eu : v / 2 ≡ u = omega arith in
-        let p′ = rw eu at p in
-        rw (e, stretch-right n u h, place-small (stretch n u .pins) p′) (omega arith)
+    go : (b : Bool) → sideOf b (stretch n (v / 2)) .pins ≡ 0
+    go true = omega (arith, place-small (stretch n (v / 2) .pins) p)
+    go false = omega (arith, place-small (stretch n (v / 2) .pins) p)
 
 module _ (n j : ℕ) (lo : 2 ^ j ≤ n) (hi : n < 2 ^ suc j) where
   -- on the last level
@@ -174,15 +169,12 @@ rank-in n v a b = let p = place-in (stretch n v .pins) (pins-of-node n v a b) in
 
 -- ---- a stretch by its two numbers
 
-pub place-some : (n u start pins : ℕ) → 1 ≤ u → u ≤ n → StretchIs n u start pins → (1 ≤ rootPlace pins) × (rootPlace pins ≤ pins)
-place-some n u start pins h k e = place-in pins (rw (e .1) at (pins-of-node n u h k))
+pub place-some : (n : ℕ) {u start pins : ℕ} → 1 ≤ u → u ≤ n → StretchIs n u start pins → (1 ≤ rootPlace pins) × (rootPlace pins ≤ pins)
+place-some n {u} {start} {pins} h k e = place-in pins (rw e at (pins-of-node n u h k))
 
-pub is-left : (n u start pins : ℕ) → 1 ≤ u → StretchIs n u start pins → StretchIs n (2 * u) start (rootPlace pins - 1)
-is-left n u start pins h e = rw (stretch-left n u h, e .0, e .1) (refl, refl)
+pub is-child : (side : Bool) (n : ℕ) {u start pins : ℕ} → 1 ≤ u → StretchIs n u start pins → stretch n (childOf side u) ≡ sideOf side (record { start = start; pins = pins })
+is-child side n {u} h e = stretch-child n side u h ∙ ap (sideOf side) e
 
-pub is-right : (n u start pins : ℕ) → 1 ≤ u → StretchIs n u start pins → StretchIs n (2 * u + 1) (start + rootPlace pins) (pins - rootPlace pins)
-is-right n u start pins h e = rw (stretch-right n u h, e .0, e .1) (refl, refl)
-
-pub rank-is : (n v start pins : ℕ) → StretchIs n v start pins → rank n v ≡ start + rootPlace pins - 1
+pub rank-is : (n v : ℕ) {start pins : ℕ} → StretchIs n v start pins → rank n v ≡ start + rootPlace pins - 1
 unfolding rank
-rank-is n v start pins e = rw (e .0, e .1)
+rank-is n v e = rw e

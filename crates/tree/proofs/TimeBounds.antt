@@ -1,5 +1,5 @@
 -- Every time that access gives, and so every time that is listed, has 32 bits.
-use mathlib.Core.List.{List, [], _∷_}
+use mathlib.Core.List.{List}
 use Prim.Native.Nat.{ℕ, zero, suc, _+_, _/_, _%_, _^_, _<_}
 use native.Mathlib.Decide.{decLt, ℕ-discrete}
 use native.Mathlib.Omega.{arith}
@@ -10,9 +10,10 @@ use Rattle.codes.specs.Fetch.{Fetched, value, outside}
 use Rattle.tree.specs.declared.nodes.Levels.{Levels}
 use Rattle.tree.specs.Shape.{height}
 use Rattle.tree.specs.Levels.{fetchedAt}
-use Rattle.tree.specs.Times.{Time, at, refused, under, known, nodeTimeIn, nodeTime}
-use Rattle.tree.specs.Walks.{Answer, found, stopped, unless, met, toward, lastOf, accessAnswer}
+use Rattle.tree.specs.Times.{Time, at, refused, under, known, nodeTimeIn, nodeTime, timesIn}
+use Rattle.tree.specs.Walks.{Answer, found, stopped, toward, lastOf, accessAnswer}
 use Rattle.tree.specs.Listing.{accesses, timeThen, timesFrom}
+use Rattle.tree.proofs.Walks.{Found, met-found}
 
 time-within : (fetch : ℕ → Fetched) (v : ℕ) → known (nodeTime fetch v) < 2 ^ 32
 unfolding nodeTime nodeTimeIn
@@ -38,24 +39,14 @@ time-within fetch v = go (height v) v
 
 -- what an answer gives has 32 bits
 abbrev Small : Answer → Type 0
-Small (found t k) = t < 2 ^ 32
-Small (stopped r c) = Unit {0}
-
-met-small : (time : ℕ → Time) (t k : ℕ) → t < 2 ^ 32 → (vs : List ℕ) → Small (met time (found t k) vs)
-unfolding met
-met-small time t k h [] = h
-met-small time t k h (v ∷ vs) = go (time v) (met time (found t k) vs) (met-small time t k h vs)
-  where
-    go : (x : Time) (later : Answer) → Small later → Small (unless x later)
-    go (at p) later s = s
-    go (refused r u) later s = tt
+Small = Found (λ t k. t < 2 ^ 32)
 
 access-small : (levels : Levels) (s : List ℕ) (i : ℕ) → Small (accesses levels s i)
 unfolding accessAnswer
 access-small levels s i =
     let nodes = toward (levels .pins) i in
-    let time = nodeTime (fetchedAt levels s) in
-    met-small time (known (time (lastOf 0 nodes))) (length nodes) (time-within (fetchedAt levels s) (lastOf 0 nodes)) nodes
+    let time = timesIn levels s in
+    met-found (λ t k. t < 2 ^ 32) time (known (time (lastOf 0 nodes))) (length nodes) (time-within (fetchedAt levels s) (lastOf 0 nodes)) nodes
 
 pub times-within : (levels : Levels) (s : List ℕ) (k i : ℕ) → Within 32 (timesFrom (accesses levels s) k i)
 unfolding timesFrom

@@ -1,4 +1,4 @@
--- The nodes of a walk, one after the other.
+-- A walk goes from a node to one of its children, and has at most as many nodes as the height.
 use mathlib.Core.Path.{_≡_, refl, ap, _∙_}
 use mathlib.Core.Bool.{Bool, true, false, cond}
 use mathlib.Core.List.{List, [], _∷_}
@@ -10,7 +10,7 @@ use lib.ListN.{length}
 use borrow.Author.Tests.{lt-ltb, le-ltb, eq-eqb, ne-eqb}
 use Rattle.tree.specs.Shape.{height, childOf, rank}
 use Rattle.tree.specs.Times.{Time, at, refused}
-use Rattle.tree.specs.Walks.{walkIn, walk, Answer, stopped, met, towardFrom}
+use Rattle.tree.specs.Walks.{walkIn, walk, Answer, found, stopped, unless, met, towardFrom}
 use Rattle.tree.proofs.Heights.{height-step, height-mono, height-above}
 
 pub child-bounds : (right : Bool) (v : ℕ) → (2 * v ≤ childOf right v) × (childOf right v ≤ 2 * v + 1)
@@ -79,6 +79,20 @@ met-fine time answer v t vs e = rw e
 pub met-refused : (time : ℕ → Time) (answer : Answer) (v r u : ℕ) (vs : List ℕ) → time v ≡ refused r u → met time answer (v ∷ vs) ≡ stopped r u
 unfolding met
 met-refused time answer v r u vs e = rw e
+
+-- a property of what is found; a refusal need not have it
+abbrev pub Found : (ℕ → ℕ → Type 0) → Answer → Type 0
+Found P (found x k) = P x k
+Found P (stopped r c) = Unit {0}
+
+pub met-found : (P : ℕ → ℕ → Type 0) (time : ℕ → Time) (x k : ℕ) → P x k → (vs : List ℕ) → Found P (met time (found x k) vs)
+unfolding met
+met-found P time x k h [] = h
+met-found P time x k h (v ∷ vs) = go (time v) (met time (found x k) vs) (met-found P time x k h vs)
+  where
+    go : (z : Time) (later : Answer) → Found P later → Found P (unless z later)
+    go (at t) later f = f
+    go (refused r u) later f = tt
 
 -- ---- walks that agree at the nodes
 

@@ -20,6 +20,10 @@ countOf n l = suc (min n (2 ^ l - 1)) - firstOf l
 abbrev pub levelOf : ℕ → ℕ
 levelOf v = height v
 
+-- levels by their pin count, codes and ends
+abbrev pub levelsOf : ℕ → List ℕ → List ℕ → Levels
+levelsOf n codes ends = record { pins = n; codes = codes; ends = ends }
+
 -- the code and the part of level L
 abbrev pub codeOf : Levels → ℕ → ℕ
 codeOf at l = getD (at .codes) (l - 1) 0

@@ -4,13 +4,12 @@ use Prim.Native.Nat.{ℕ, zero, suc}
 use Rattle.tree.specs.declared.listing.Listed.{Listed}
 use Rattle.tree.specs.declared.listing.Listed.the-variants as listing
 use Rattle.tree.specs.declared.nodes.Levels.{Levels}
-use Rattle.tree.specs.Levels.{fetchedAt}
-use Rattle.tree.specs.Times.{numberOf, nodeOf, nodeTime}
+use Rattle.tree.specs.Times.{numberOf, nodeOf, timesIn}
 use Rattle.tree.specs.Walks.{Answer, found, stopped, accessAnswer}
 
 -- what access answers at each position, by the parts of the levels
 abbrev pub accesses : Levels → List ℕ → ℕ → Answer
-accesses levels s = accessAnswer (levels .pins) (nodeTime (fetchedAt levels s))
+accesses levels s = accessAnswer (levels .pins) (timesIn levels s)
 
 -- what ends a listing early: the position, the number of its refusal and what that carries
 pub data Stop : Type 0 where

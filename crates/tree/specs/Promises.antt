@@ -1,5 +1,5 @@
 -- What is shown of the tree besides each function's contract. proofs/Promises proves each, as `height-least`, `shape`, `contents`,
--- `search-finds`, `access-opens`, `stored-levels`, `lists` and `sweep-finds`.
+-- `search-finds`, `access-opens`, `stored-levels`, `listing-finds` and `sweep-finds`.
 use mathlib.Core.Path.{_≡_}
 use mathlib.Core.Logic.{_≢_, _↔_}
 use mathlib.Core.Bool.{Bool, true, false}
@@ -12,8 +12,8 @@ use Rattle.tree.specs.declared.nodes.Levels.{Levels}
 use Rattle.tree.specs.Shape.{height, sideOf, stretch, rank}
 use Rattle.tree.specs.Lists.{ordered, smaller}
 use Rattle.tree.specs.Stored.{timeOf, storedValues}
-use Rattle.tree.specs.Levels.{firstOf, levelOf, levelValues, fetchedAt, Stores}
-use Rattle.tree.specs.Times.{at, nodeTime}
+use Rattle.tree.specs.Levels.{firstOf, levelOf, levelValues, Stores}
+use Rattle.tree.specs.Times.{Time, at, timesIn}
 use Rattle.tree.specs.Listing.{nowhere, accesses, timesFrom, stopFrom, endOf}
 use Rattle.tree.specs.Walks.{walk, Answer, found, toward, accessAnswer, searchNodes, searchAnswer, path, fromRoot}
 use Rattle.tree.specs.Sweeps.{sweep, different}
@@ -50,25 +50,27 @@ pub record Held (levels : Levels) (s xs : List ℕ) : Type 0 where
 -- 2. Going down, each node has the list's time at its rank, and access at i gives time i. Nothing is refused.
 pub record Contents : Type 0 where
   pub node : (levels : Levels) (s xs : List ℕ) → Held levels s xs → (v : ℕ) → 1 ≤ v → v ≤ length xs
-      → nodeTime (fetchedAt levels s) v ≡ at (timeOf xs v)
+      → timesIn levels s v ≡ at (timeOf xs v)
   pub access : (levels : Levels) (s xs : List ℕ) → Held levels s xs → (i : ℕ) → i < length xs
-      → accessAnswer (levels .pins) (nodeTime (fetchedAt levels s)) i ≡ found (getD xs i 0) (length (toward (length xs) i))
+      → accessAnswer (levels .pins) (timesIn levels s) i ≡ found (getD xs i 0) (length (toward (length xs) i))
 
 -- 3. A search gives the number of times smaller than its target, so the first pin of a chord. It opens the nodes of its path, which
 -- goes on after an equal time, and counts them. Nothing is refused.
 pub record SearchFinds : Type 0 where
   pub nodes : (levels : Levels) (s xs : List ℕ) → Held levels s xs → (t : ℕ)
-      → searchNodes (levels .pins) (nodeTime (fetchedAt levels s)) t 1 ≡ path xs t
+      → searchNodes (levels .pins) (timesIn levels s) t 1 ≡ path xs t
   pub answer : (levels : Levels) (s xs : List ℕ) → Held levels s xs → (t : ℕ)
-      → searchAnswer (levels .pins) (nodeTime (fetchedAt levels s)) t ≡ found (smaller t xs) (length (path xs t))
+      → searchAnswer (levels .pins) (timesIn levels s) t ≡ found (smaller t xs) (length (path xs t))
 
--- 4. An access at i opens the nodes from the root to the one of rank i, at most the height.
+-- 4. An access at i opens the nodes from the root to the one of rank i, one or more and at most the height, and counts them.
 pub record AccessOpens : Type 0 where
   pub nodes : (n v : ℕ) → 1 ≤ v → v ≤ n → toward n (rank n v) ≡ fromRoot v
+  pub some : (n i : ℕ) → 1 ≤ n → 1 ≤ length (toward n i)
   pub few : (n i : ℕ) → length (toward n i) ≤ height n
+  pub count : (n : ℕ) (time : ℕ → Time) (i t k : ℕ) → accessAnswer n time i ≡ found t k → k ≡ length (toward n i)
 
--- 5. There are as many stored values as times, of as many bits. So have those of a level, which are at most half, rounded up,
--- and with those of the levels above as many as there are nodes down to it.
+-- 5. There are as many stored values as times, and none has more bits than the times. A level has at most half of them, rounded up;
+-- with the nodes above it, at most as many as there are nodes down to it.
 pub record StoredLevels : Type 0 where
   pub count : (xs : List ℕ) → length (storedValues xs) ≡ length xs
   pub within : (w : ℕ) (xs : List ℕ) → Within w xs → Within w (storedValues xs)
@@ -78,7 +80,7 @@ pub record StoredLevels : Type 0 where
 
 -- 6. A listing has a time for each position before the one where it ends, each of 32 bits. Of levels that hold a list it lists that
 -- list, and nothing is refused.
-pub record Lists : Type 0 where
+pub record ListingFinds : Type 0 where
   pub count : (answer : ℕ → Answer) (k : ℕ) → length (timesFrom answer k 0) ≡ endOf (stopFrom answer k 0) k
   pub within : (levels : Levels) (s : List ℕ) (k : ℕ) → Within 32 (timesFrom (accesses levels s) k 0)
   pub times : (levels : Levels) (s xs : List ℕ) → Held levels s xs → timesFrom (accesses levels s) (levels .pins) 0 ≡ xs
@@ -88,6 +90,6 @@ pub record Lists : Type 0 where
 -- its targets once, at most all pins, and at most the height for each target. Nothing is refused.
 pub record SweepFinds : Type 0 where
   pub answer : (levels : Levels) (s xs : List ℕ) → Held levels s xs → (ts : List ℕ) → T (ordered ts)
-      → sweep (levels .pins) (nodeTime (fetchedAt levels s)) ts ≡ record { positions = map (λ t. smaller t xs) ts; answer = found 0 (different xs ts) }
+      → sweep (levels .pins) (timesIn levels s) ts ≡ record { positions = map (λ t. smaller t xs) ts; answer = found 0 (different xs ts) }
   pub pins : (xs ts : List ℕ) → different xs ts ≤ length xs
   pub heights : (xs ts : List ℕ) → different xs ts ≤ length ts * height (length xs)

@@ -9,13 +9,12 @@ use Rattle.tree.specs.declared.shape.Stretch.{Stretch}
 use Rattle.tree.specs.declared.nodes.Levels.{Levels}
 use Rattle.tree.specs.declared.targets.Remembered.{Remembered}
 use Rattle.tree.specs.declared.targets.Walked.{Walked}
-use Rattle.tree.specs.declared.targets.Swept.{Swept}
-use Rattle.tree.specs.declared.targets.Swept.the-variants as sweeping
+use Rattle.tree.specs.declared.targets.Ending.{Ending}
+use Rattle.tree.specs.declared.targets.Ending.the-variants as ending
 use Rattle.tree.specs.Shape.{height, stretch, rank}
-use Rattle.tree.specs.Levels.{fetchedAt}
-use Rattle.tree.specs.Times.{at, nodeTime, numberOf, nodeOf}
+use Rattle.tree.specs.Times.{at, timesIn, numberOf, nodeOf}
 use Rattle.tree.specs.Walks.{Answer, found, stopped, isBelow, keptFrom, targetFrom}
-use Rattle.tree.specs.Sweeps.{Dropped, dropped, Sweep, sweepFrom}
+use Rattle.tree.specs.Sweeps.{Dropped, dropped}
 
 -- nothing remembered
 abbrev pub nothing : Remembered
@@ -44,11 +43,11 @@ unfoldable pub leftBy : List ℕ → ℕ → ℕ → ℕ
 leftBy times t zero = 0
 leftBy times t (suc c) = cond (ltb (getD times c 0) t) (leftBy times t c) (suc c)
 
--- Entry i: a node with its time and its rank. Its stretch ends at the rank of the one before, or n, and more than i levels lie down to it.
+-- Entry i: a node with its time and its rank. Its stretch ends at the rank of the one before, or n, and its level, counted from 1, is more than i.
 pub record Entry (levels : Levels) (s nodes times ranks : List ℕ) (i : ℕ) : Type 0 where
   pub one : 1 ≤ getD nodes i 0
   pub among : getD nodes i 0 ≤ levels .pins
-  pub time : nodeTime (fetchedAt levels s) (getD nodes i 0) ≡ at (getD times i 0)
+  pub time : timesIn levels s (getD nodes i 0) ≡ at (getD times i 0)
   pub ranked : rank (levels .pins) (getD nodes i 0) ≡ getD ranks i 0
   pub ends : stretch (levels .pins) (getD nodes i 0) .start + stretch (levels .pins) (getD nodes i 0) .pins ≡ positionIn ranks i (levels .pins)
   pub deep : i < height (getD nodes i 0)
@@ -68,9 +67,9 @@ pub record Resumes (levels : Levels) (s : List ℕ) (w : Remembered) (v : ℕ) (
   pub few : k ≤ here .start + w .count
 
 -- what a target answers whose position is p
-abbrev pub answerBy : ℕ → Swept → Answer
-answerBy p (sweeping.Nodes k) = found p k
-answerBy p (sweeping.Refused r) = stopped (numberOf r) (nodeOf r)
+abbrev pub answerBy : ℕ → Ending → Answer
+answerBy p (ending.Nodes k) = found p k
+answerBy p (ending.Refused r) = stopped (numberOf r) (nodeOf r)
 
 -- by what it leaves remembered
 abbrev pub walkedAnswer : ℕ → Walked → Answer
@@ -82,9 +81,9 @@ pub record Rests (levels : Levels) (s : List ℕ) (w : Remembered) (k : ℕ) : T
   pub few : k ≤ positionBy w (levels .pins) + w .count
 
 -- what a target leaves remembered, where it is not refused
-abbrev pub RemembersBy : Levels → List ℕ → Remembered → Swept → List ℕ → Type 0
-RemembersBy levels s w (sweeping.Nodes k) vs = (keptIn w ≡ vs) × Rests levels s w k
-RemembersBy levels s w (sweeping.Refused r) vs = Unit {0}
+abbrev pub RemembersBy : Levels → List ℕ → Remembered → Ending → List ℕ → Type 0
+RemembersBy levels s w (ending.Nodes k) vs = (keptIn w ≡ vs) × Rests levels s w k
+RemembersBy levels s w (ending.Refused r) vs = Unit {0}
 
 abbrev pub Remembers : Levels → List ℕ → Walked → List ℕ → Type 0
 Remembers levels s r vs = RemembersBy levels s (r .kept) (r .ending) vs
@@ -99,20 +98,16 @@ Between levels s w first k = Rests levels s w k × (first ≡ true → (w .count
 
 -- what the next target drops
 abbrev pub droppedIn : Levels → List ℕ → Remembered → Bool → ℕ → Dropped
-droppedIn levels s w first t = dropped (isBelow (nodeTime (fetchedAt levels s)) t) (startAt (levels .pins) first) (keptIn w)
+droppedIn levels s w first t = dropped (isBelow (timesIn levels s) t) (startAt (levels .pins) first) (keptIn w)
 
 -- what it answers
 abbrev pub targetIn : Levels → List ℕ → Remembered → Bool → ℕ → ℕ → Answer
 targetIn levels s w first t k =
     let d = droppedIn levels s w first t in
-    targetFrom (levels .pins) (nodeTime (fetchedAt levels s)) t (d .kept) k (d .from)
+    targetFrom (levels .pins) (timesIn levels s) t (d .kept) k (d .from)
 
 -- what it leaves remembered
 abbrev pub keptAfter : Levels → List ℕ → Remembered → Bool → ℕ → List ℕ
 keptAfter levels s w first t =
     let d = droppedIn levels s w first t in
-    keptFrom (levels .pins) (nodeTime (fetchedAt levels s)) t (d .kept) (d .from)
-
--- a sweep that goes on so
-abbrev pub sweepOn : Levels → List ℕ → Remembered → Bool → ℕ → List ℕ → Sweep
-sweepOn levels s w first k ts = sweepFrom (levels .pins) (nodeTime (fetchedAt levels s)) (startAt (levels .pins) first) (keptIn w) k ts
+    keptFrom (levels .pins) (timesIn levels s) t (d .kept) (d .from)

@@ -1,5 +1,4 @@
 -- The shape of the tree: nodes are numbered as in a heap, and each has a stretch of the list under it.
-use mathlib.Core.Path.{_≡_}
 use mathlib.Core.Bool.{Bool, true, false, cond}
 use Prim.Native.Nat.{ℕ, zero, suc, _+_, _-_, _*_, _/_, _%_, _^_}
 use lib.Dec.{eqb, ltb}
@@ -40,10 +39,6 @@ stretchIn (suc f) n v =
 -- binary digits; `stretch-root` and `stretch-child` in proofs/Stretches have the equations without their number.
 unfoldable pub stretch : ℕ → ℕ → Stretch
 stretch n v = stretchIn (height v) n v
-
--- the stretch of node v has `pins` from `start` on
-abbrev pub StretchIs : ℕ → ℕ → ℕ → ℕ → Type 0
-StretchIs n v start pins = (stretch n v .start ≡ start) × (stretch n v .pins ≡ pins)
 
 -- a node's position in the whole list
 unfoldable pub rank : ℕ → ℕ → ℕ

@@ -6,14 +6,13 @@ use lib.ListN.{length}
 use Rattle.tree.specs.declared.shape.Stretch.{Stretch}
 use Rattle.tree.specs.declared.nodes.Levels.{Levels}
 use Rattle.tree.specs.Shape.{stretch}
-use Rattle.tree.specs.Levels.{fetchedAt}
-use Rattle.tree.specs.Times.{Time, at, known, nodeTime}
+use Rattle.tree.specs.Times.{Time, at, known, timesIn}
 use Rattle.tree.specs.Walks.{Answer, found, met, towardFrom, lastOf}
 use Rattle.tree.specs.Listing.{accesses}
 
--- levels by their parts
-abbrev pub levelsOf : ℕ → List ℕ → List ℕ → Levels
-levelsOf n codes ends = record { pins = n; codes = codes; ends = ends }
+-- the stretch of node v has `pins` from `start` on
+abbrev pub StretchIs : ℕ → ℕ → ℕ → ℕ → Type 0
+StretchIs n v start pins = stretch n v ≡ record { start = start; pins = pins }
 
 -- at node v, `depth` levels down, with the stretch under it and its parent's time
 pub record Stands (levels : Levels) (s : List ℕ) (v depth : ℕ) (here : Stretch) (above : ℕ) : Type 0 where
@@ -22,7 +21,7 @@ pub record Stands (levels : Levels) (s : List ℕ) (v depth : ℕ) (here : Stret
   pub high : v < 2 * 2 ^ depth
   pub under : stretch (levels .pins) v ≡ here
   pub inside : here .start + here .pins ≤ levels .pins
-  pub parent : nodeTime (fetchedAt levels s) (v / 2) ≡ at above
+  pub parent : timesIn levels s (v / 2) ≡ at above
 
 -- what an access at i answers that goes on from node v, with k nodes opened
 abbrev pub accessFrom : ℕ → (ℕ → Time) → ℕ → ℕ → ℕ → Answer
@@ -34,4 +33,4 @@ accessFrom n time i k v =
 abbrev pub Reaches : Levels → List ℕ → ℕ → ℕ → Stretch → Type 0
 Reaches levels s v depth here =
     (i : ℕ) → here .start ≤ i → i < here .start + here .pins
-    → accessFrom (levels .pins) (nodeTime (fetchedAt levels s)) i depth v ≡ accesses levels s i
+    → accessFrom (levels .pins) (timesIn levels s) i depth v ≡ accesses levels s i

@@ -4,8 +4,8 @@ use mathlib.Core.List.{List, [], _∷_}
 use Prim.Native.Nat.{ℕ, zero, suc, _+_}
 use lib.Dec.{eqb}
 use lib.ListN.{length}
-use Rattle.tree.specs.declared.targets.Swept.{Swept}
-use Rattle.tree.specs.declared.targets.Swept.the-variants as sweeping
+use Rattle.tree.specs.declared.sweeping.Swept.{Swept}
+use Rattle.tree.specs.declared.sweeping.Swept.the-variants as sweeping
 use Rattle.tree.specs.Shape.{childOf}
 use Rattle.tree.specs.Times.{Time, numberOf, nodeOf}
 use Rattle.tree.specs.Walks.{Answer, found, stopped, isBelow, keptFrom, targetFrom, path}

@@ -1,13 +1,16 @@
 -- The times that are found going down, any of which may be refused.
 use mathlib.Core.Bool.{cond}
+use mathlib.Core.List.{List}
 use Prim.Native.Nat.{ℕ, zero, suc, _+_, _-_, _/_, _%_, _^_}
 use lib.Dec.{eqb, ltb}
 use Rattle.codes.specs.Fetch.{Fetched, value, outside}
+use Rattle.tree.specs.declared.nodes.Levels.{Levels}
 use Rattle.tree.specs.declared.nodes.Refusal.{Refusal}
 use Rattle.tree.specs.declared.nodes.Refusal.the-variants as refusals
 use Rattle.tree.specs.declared.nodes.Opened.{Opened}
 use Rattle.tree.specs.declared.nodes.Opened.the-variants as opened
 use Rattle.tree.specs.Shape.{height}
+use Rattle.tree.specs.Levels.{fetchedAt}
 
 -- a node's time, or the number of the refusal and the node that it carries
 pub data Time : Type 0 where
@@ -46,6 +49,10 @@ nodeTimeIn (suc f) fetch v = under v (nodeTimeIn f fetch (v / 2)) (fetch v)
 -- proofs/NodeTimes has the equation without their number.
 unfoldable pub nodeTime : (ℕ → Fetched) → ℕ → Time
 nodeTime fetch v = nodeTimeIn (height v) fetch v
+
+-- the time of each node, from the parts of the levels alone
+abbrev pub timesIn : Levels → List ℕ → ℕ → Time
+timesIn levels s = nodeTime (fetchedAt levels s)
 
 -- a time; where it is refused the call ends, and nothing is asked of it
 abbrev pub known : Time → ℕ

@@ -1,16 +1,17 @@
 // The values that the nodes of a list's tree store, in node order.
-use super::nodes::least;
 use super::shape::power_of_two;
 use super::shape::root_place;
+use codes::least;
 ghost use mathlib.Core.Path.{_≡_};
 ghost use mathlib.Core.List.{_++_};
 ghost use Prim.Native.Nat.{_+_, _%_, _≤_};
 ghost use lib.Dec.{T};
 ghost use lib.ListN.{length, drop};
-ghost use Rattle.tree.specs.Shape.{height, StretchIs};
+ghost use Rattle.tree.specs.Shape.{height};
 ghost use Rattle.tree.specs.Lists.{ordered};
 ghost use Rattle.tree.specs.Stored.{difference, timeAbove, storedValues};
 ghost use Rattle.tree.specs.Levels.{levelValues};
+ghost use Rattle.tree.specs.Standing.{StretchIs};
 ghost use Rattle.tree.specs.Filled.{Filled};
 
 // What node v stores: its time's difference from its parent's, which is the greater one for a left child. Above the root the

@@ -1,13 +1,13 @@
 // One node: what it stores on its level, and its time.
 use super::shape::power_of_two;
 use codes::Found;
+use codes::least;
 ghost use mathlib.Core.Path.{_≡_};
 ghost use Prim.Native.Nat.{_+_, _-_, _*_, _^_, _≤_, _<_, min};
 ghost use lib.ListN.{length};
 ghost use Rattle.codes.specs.Fetch.{value, fetched};
-ghost use Rattle.tree.specs.Levels.{Fits, fetchedAt};
+ghost use Rattle.tree.specs.Levels.{levelsOf, fetchedAt, Fits};
 ghost use Rattle.tree.specs.Times.{at, under, timeOpened};
-ghost use Rattle.tree.specs.Standing.{levelsOf};
 
 // The pin count, each level's code byte and each level's end. Entry 0 of the ends is where the first level starts; so the part
 // of level L, counted from 1, is the strip's bytes from entry L - 1 up to entry L.
@@ -34,12 +34,6 @@ pub(crate) enum Opened {
     Refused(Refusal),
 }
 
-pub(crate) fn least(a: usize, b: usize) -> usize
-    ensures { λ r. ⌜ r ≡ min a b ⌝ }
-{
-    if a < b { a } else { b }
-}
-
 // The time of node v, which stores `d`, by its parent's: a left child is `d` before it, a right child `d` after it.
 fn time_under(v: usize, above: u32, d: u32) -> Opened
     ensures { λ r. ⌜ timeOpened r ≡ under v (at above) (value d) ⌝ }
@@ -57,14 +51,7 @@ fn time_under(v: usize, above: u32, d: u32) -> Opened
 }
 
 // Opens node v of n by a fetch from its level's part alone, in code `code`. It has `depth` levels and the time `above` above it.
-pub(crate) fn open_node(
-    part: &[u8],
-    code: u8,
-    n: usize,
-    depth: usize,
-    v: usize,
-    above: u32,
-) -> Opened
+fn open_node(part: &[u8], code: u8, n: usize, depth: usize, v: usize, above: u32) -> Opened
     requires { ⌜ (2 ^ depth ≤ v) × (v < 2 * 2 ^ depth) × (v ≤ n) × (n < 2 ^ 63) × (length (now part) < 2 ^ 32) ⌝ }
     ensures { λ r. ⌜ timeOpened r ≡ under v (at above) (fetched code (min (n + 1 - 2 ^ depth) (2 ^ depth)) (v - 2 ^ depth) (now (part .entry))) ⌝ }
 {

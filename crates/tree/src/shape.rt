@@ -1,7 +1,8 @@
 // The shape of the tree of n pins.
 ghost use mathlib.Core.Path.{_≡_};
 ghost use Prim.Native.Nat.{ℕ, _+_, _/_, _^_, _≤_, _<_};
-ghost use Rattle.tree.specs.Shape.{height, rootPlace, sideOf, childOf, StretchIs, rank, ranked};
+ghost use Rattle.tree.specs.Shape.{height, rootPlace, sideOf, childOf, rank, ranked};
+ghost use Rattle.tree.specs.Standing.{StretchIs};
 
 // The stretch of the list under a node: where it starts and how many pins it has.
 pub(crate) struct Stretch {

@@ -1,9 +1,10 @@
 // The sweep: targets one after the other, each from where the one before leaves off.
 use super::nodes::Levels;
+use super::nodes::Refusal;
 use super::shape::Stretch;
 use super::shape::child_of;
+use super::targets::Ending;
 use super::targets::Remembered;
-use super::targets::Swept;
 use super::targets::Walked;
 use super::targets::go_down;
 use super::targets::left_by;
@@ -12,11 +13,17 @@ use super::targets::position_of;
 ghost use mathlib.Core.Path.{_≡_};
 ghost use Prim.Native.Nat.{_≤_};
 ghost use lib.ListN.{length};
-ghost use Rattle.tree.specs.Levels.{Fits, fetchedAt};
-ghost use Rattle.tree.specs.Times.{nodeTime};
+ghost use Rattle.tree.specs.Levels.{Fits};
+ghost use Rattle.tree.specs.Times.{timesIn};
 ghost use Rattle.tree.specs.Buffers.{replaced};
 ghost use Rattle.tree.specs.Sweeps.{sweep, swept};
 ghost use Rattle.tree.specs.Remembering.{walkedAnswer, Between, targetIn, keptAfter, Remembers};
+
+// The nodes opened in all, or why a target stops.
+pub enum Swept {
+    Nodes(usize),
+    Refused(Refusal),
+}
 
 // The next target. The first goes as search does; a later one drops remembered nodes while their time is below it, and if any is
 // dropped, goes on from the right child of the last.
@@ -42,7 +49,7 @@ fn next_target(
     if left == kept.count {
         return Walked {
             kept: kept,
-            ending: Swept::Nodes(nodes),
+            ending: Ending::Nodes(nodes),
         };
     }
     let mut kept = kept;
@@ -61,8 +68,8 @@ fn next_target(
 pub fn sweep(answers: &mut [u32], s: &[u8], levels: Levels, targets: &[u32]) -> Swept
     requires { ⌜ Fits levels (now s) ⌝ }
     requires { ⌜ length (now targets) ≤ length (now answers) ⌝ }
-    ensures { λ r. ⌜ swept r ≡ sweep (levels .pins) (nodeTime (fetchedAt levels (now (s .entry)))) (now (targets .entry)) .answer ⌝ }
-    ensures { λ r. ⌜ now (answers .exit) ≡ replaced (now (answers .entry)) 0 (sweep (levels .pins) (nodeTime (fetchedAt levels (now (s .entry)))) (now (targets .entry)) .positions) ⌝ }
+    ensures { λ r. ⌜ swept r ≡ sweep (levels .pins) (timesIn levels (now (s .entry))) (now (targets .entry)) .answer ⌝ }
+    ensures { λ r. ⌜ now (answers .exit) ≡ replaced (now (answers .entry)) 0 (sweep (levels .pins) (timesIn levels (now (s .entry))) (now (targets .entry)) .positions) ⌝ }
 {
     let mut kept = nothing_kept();
     let mut nodes: usize = 0;
@@ -71,10 +78,10 @@ pub fn sweep(answers: &mut [u32], s: &[u8], levels: Levels, targets: &[u32]) -> 
         let walked = next_target(s, levels, kept, i == 0, targets[i], nodes);
         let ending = walked.ending;
         match ending {
-            Swept::Nodes(k) => {
+            Ending::Nodes(k) => {
                 nodes = k;
             }
-            Swept::Refused(r) => {
+            Ending::Refused(r) => {
                 return Swept::Refused(r);
             }
         }

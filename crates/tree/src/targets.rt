@@ -11,8 +11,8 @@ use super::shape::side_of;
 ghost use mathlib.Core.Path.{_≡_};
 ghost use Prim.Native.Nat.{_-_, _≤_};
 ghost use Rattle.tree.specs.Shape.{height};
-ghost use Rattle.tree.specs.Levels.{Fits, fetchedAt};
-ghost use Rattle.tree.specs.Times.{nodeTime};
+ghost use Rattle.tree.specs.Levels.{Fits};
+ghost use Rattle.tree.specs.Times.{timesIn};
 ghost use Rattle.tree.specs.Walks.{keptFrom, targetFrom};
 ghost use Rattle.tree.specs.Standing.{Stands};
 ghost use Rattle.tree.specs.Remembering.{nothing, keptIn, positionBy, leftBy, walkedAnswer, Resumes, Remembers};
@@ -25,8 +25,8 @@ pub(crate) struct Remembered {
     pub(crate) ranks: [usize; 16],
 }
 
-// The nodes opened in all, or why a walk stops.
-pub enum Swept {
+// How a target ends: with the nodes opened in all, or why it stops.
+pub(crate) enum Ending {
     Nodes(usize),
     Refused(Refusal),
 }
@@ -34,7 +34,7 @@ pub enum Swept {
 // What a target leaves remembered, which means something where it is not refused.
 pub(crate) struct Walked {
     pub(crate) kept: Remembered,
-    pub(crate) ending: Swept,
+    pub(crate) ending: Ending,
 }
 
 pub(crate) fn nothing_kept() -> Remembered
@@ -89,8 +89,8 @@ pub(crate) fn go_down(
     requires { ⌜ Fits levels (now s) ⌝ }
     requires { ⌜ Stands levels (now s) v (height v - 1) here above ⌝ }
     requires { ⌜ Resumes levels (now s) kept v here nodes ⌝ }
-    ensures { λ r. ⌜ walkedAnswer (levels .pins) r ≡ targetFrom (levels .pins) (nodeTime (fetchedAt levels (now (s .entry)))) target (keptIn kept) nodes v ⌝ }
-    ensures { λ r. ⌜ Remembers levels (now (s .entry)) r (keptFrom (levels .pins) (nodeTime (fetchedAt levels (now (s .entry)))) target (keptIn kept) v) ⌝ }
+    ensures { λ r. ⌜ walkedAnswer (levels .pins) r ≡ targetFrom (levels .pins) (timesIn levels (now (s .entry))) target (keptIn kept) nodes v ⌝ }
+    ensures { λ r. ⌜ Remembers levels (now (s .entry)) r (keptFrom (levels .pins) (timesIn levels (now (s .entry))) target (keptIn kept) v) ⌝ }
 {
     let mut kept = kept;
     let mut v = v;
@@ -108,7 +108,7 @@ pub(crate) fn go_down(
             Opened::Refused(r) => {
                 return Walked {
                     kept: kept,
-                    ending: Swept::Refused(r),
+                    ending: Ending::Refused(r),
                 };
             }
         }
@@ -126,6 +126,6 @@ pub(crate) fn go_down(
     }
     Walked {
         kept: kept,
-        ending: Swept::Nodes(nodes),
+        ending: Ending::Nodes(nodes),
     }
 }

@@ -7,14 +7,14 @@ use super::shape::Stretch;
 use super::shape::child_of;
 use super::shape::root_place;
 use super::shape::side_of;
-use super::targets::Swept;
+use super::targets::Ending;
 use super::targets::go_down;
 use super::targets::nothing_kept;
 use super::targets::position_of;
 ghost use mathlib.Core.Path.{_≡_};
 ghost use Prim.Native.Nat.{_<_};
-ghost use Rattle.tree.specs.Levels.{Fits, fetchedAt};
-ghost use Rattle.tree.specs.Times.{nodeTime};
+ghost use Rattle.tree.specs.Levels.{Fits};
+ghost use Rattle.tree.specs.Times.{timesIn};
 ghost use Rattle.tree.specs.Walks.{accessAnswer, searchAnswer, accessed, searched};
 
 // The time at a position, with the nodes opened.
@@ -33,7 +33,7 @@ pub enum Searched {
 pub fn access(s: &[u8], levels: Levels, i: usize) -> Accessed
     requires { ⌜ Fits levels (now s) ⌝ }
     requires { ⌜ i < levels .pins ⌝ }
-    ensures { λ r. ⌜ accessed r ≡ accessAnswer (levels .pins) (nodeTime (fetchedAt levels (now (s .entry)))) i ⌝ }
+    ensures { λ r. ⌜ accessed r ≡ accessAnswer (levels .pins) (timesIn levels (now (s .entry))) i ⌝ }
 {
     let mut v: usize = 1;
     let mut depth: usize = 0;
@@ -68,7 +68,7 @@ pub fn access(s: &[u8], levels: Levels, i: usize) -> Accessed
 // The rank of the last node left by its left side, or n: left where a node's time is at or above the target, else right.
 pub fn search(s: &[u8], levels: Levels, target: u32) -> Searched
     requires { ⌜ Fits levels (now s) ⌝ }
-    ensures { λ r. ⌜ searched r ≡ searchAnswer (levels .pins) (nodeTime (fetchedAt levels (now (s .entry)))) target ⌝ }
+    ensures { λ r. ⌜ searched r ≡ searchAnswer (levels .pins) (timesIn levels (now (s .entry))) target ⌝ }
 {
     let here = Stretch {
         start: 0,
@@ -77,7 +77,7 @@ pub fn search(s: &[u8], levels: Levels, target: u32) -> Searched
     let walked = go_down(s, levels, nothing_kept(), target, 1, here, 0, 0);
     let ending = walked.ending;
     match ending {
-        Swept::Nodes(nodes) => Searched::Position(position_of(walked.kept, levels.pins), nodes),
-        Swept::Refused(r) => Searched::Refused(r),
+        Ending::Nodes(nodes) => Searched::Position(position_of(walked.kept, levels.pins), nodes),
+        Ending::Refused(r) => Searched::Refused(r),
     }
 }

@@ -3,16 +3,12 @@ use mathlib.Core.List.{List, [], _∷_}
 use Prim.Native.Nat.{ℕ, _-_, _^_}
 use Rattle.tree.specs.declared.shape.Ranked.{Ranked}
 use Rattle.tree.specs.declared.shape.Ranked.the-variants.{At, NoNode}
-use Rattle.tree.specs.declared.nodes.Levels.{Levels}
 use Rattle.tree.specs.Walks.{Answer, found, stopped}
 
 -- a rank, or 2 ^ 64 - 1 where the number is no node's
 abbrev pub rankNumber : Ranked → ℕ
 rankNumber (At i) = i
 rankNumber NoNode = 2 ^ 64 - 1
-
-abbrev pub levelsAt : ℕ → List ℕ → List ℕ → Levels
-levelsAt n cs es = record { pins = n; codes = cs; ends = es }
 
 -- 0, what was asked for and the nodes opened; or the number of a refusal, what it carries and 0
 abbrev pub answerNumbers : Answer → List ℕ

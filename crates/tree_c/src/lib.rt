@@ -7,10 +7,10 @@ ghost use lib.ListN.{length, drop};
 ghost use Rattle.tree.specs.Shape.{height, rootPlace, ranked};
 ghost use Rattle.tree.specs.Lists.{ordered};
 ghost use Rattle.tree.specs.Stored.{storedValues};
-ghost use Rattle.tree.specs.Levels.{Fits, fetchedAt};
-ghost use Rattle.tree.specs.Times.{numberOf, nodeOf, nodeTime};
+ghost use Rattle.tree.specs.Levels.{levelsOf, Fits};
+ghost use Rattle.tree.specs.Times.{numberOf, nodeOf, timesIn};
 ghost use Rattle.tree.specs.Walks.{accessAnswer, searchAnswer};
-ghost use Rattle.tree_c.specs.Numbers.{rankNumber, levelsAt, answerNumbers};
+ghost use Rattle.tree_c.specs.Numbers.{rankNumber, answerNumbers};
 use tree::Accessed;
 use tree::Levels;
 use tree::Ranked;
@@ -82,9 +82,9 @@ pub extern "C" fn tree_access(
     i: usize,
 )
     requires { ⌜ length (now answer) ≡ 3 ⌝ }
-    requires { ⌜ Fits (levelsAt pins (now codes) (now ends)) (now s) ⌝ }
+    requires { ⌜ Fits (levelsOf pins (now codes) (now ends)) (now s) ⌝ }
     requires { ⌜ i < pins ⌝ }
-    ensures { λ r. ⌜ now (answer .exit) ≡ answerNumbers (accessAnswer pins (nodeTime (fetchedAt (levelsAt pins (now (codes .entry)) (now (ends .entry))) (now (s .entry)))) i) ⌝ }
+    ensures { λ r. ⌜ now (answer .exit) ≡ answerNumbers (accessAnswer pins (timesIn (levelsOf pins (now (codes .entry)) (now (ends .entry))) (now (s .entry))) i) ⌝ }
 {
     let levels = Levels {
         pins: pins,
@@ -108,8 +108,8 @@ pub extern "C" fn tree_search(
     target: u32,
 )
     requires { ⌜ length (now answer) ≡ 3 ⌝ }
-    requires { ⌜ Fits (levelsAt pins (now codes) (now ends)) (now s) ⌝ }
-    ensures { λ r. ⌜ now (answer .exit) ≡ answerNumbers (searchAnswer pins (nodeTime (fetchedAt (levelsAt pins (now (codes .entry)) (now (ends .entry))) (now (s .entry)))) target) ⌝ }
+    requires { ⌜ Fits (levelsOf pins (now codes) (now ends)) (now s) ⌝ }
+    ensures { λ r. ⌜ now (answer .exit) ≡ answerNumbers (searchAnswer pins (timesIn (levelsOf pins (now (codes .entry)) (now (ends .entry))) (now (s .entry))) target) ⌝ }
 {
     let levels = Levels {
         pins: pins,

@@ -5,13 +5,15 @@ use Rattle.tree.proofs.shape.root_place.Reads as root-place-reads
 use Rattle.tree.proofs.building.stored_value.Kinds as stored-value-kinds
 use Rattle.tree.proofs.building.stored_value.Reads as stored-value-reads
 use mathlib.Core.Path.{_≡_, sym, ap, _∙_}
+use mathlib.Core.Bool.{true, false}
 use Prim.Native.Nat.{ℕ, _+_, _-_, _≤_, _<_}
 use lib.ListN.{length, getD, set, length-set}
+use Rattle.tree.specs.Shape.{childOf}
 use Rattle.tree.specs.Stored.{timeOf, stored}
 use Rattle.tree.proofs.Heights.{place-in}
-use Rattle.tree.proofs.Stretches.{is-left, is-right}
+use Rattle.tree.proofs.Stretches.{is-child}
 use Rattle.tree.proofs.Contents.{sides}
-use Rattle.tree.proofs.Fills.{filled-none, filled-node, filled-leaf, fill-past, fill-node, fill-leaf, fill-time, above-left, above-right}
+use Rattle.tree.proofs.Fills.{filled-none, filled-node, filled-leaf, fill-past, fill-node, fill-leaf, fill-time, above-side}
 use borrow.Fn.Kinds.{In, Out}
 use borrow.Fn.PlainCycle.{Measures, is, falls, and}
 use Rattle.tree.proofs.building.fill.Reads as reads
@@ -37,49 +39,62 @@ returns : (t : ℕ) → lts.Need-returns (calls t) (given t) reads.Post
 returns t c =
     let p = c .before .before .before .pre .1 in
     let a = c .before .before .before .args in
-    filled-none (a .times .now) (a .v) (a .values .now) (fill-past (a .times .now) (a .v) (a .start) (a .pins) (p .1 .0 .1) (p .1 .1 .0) (c .if1 .taken))
+    filled-none (a .times .now) (a .v) (a .values .now) (fill-past (a .times .now) (p .1 .0 .1) (p .1 .1 .0) (c .if1 .taken))
 
 root-place-requires : (t : ℕ) → lts.Need-root-place-requires (calls t) (given t) reads.Post
 root-place-requires t c κs = tt
 
+-- a stretch that has pins is that of a node
+node-in : (t : ℕ) (c : lts.Else1 (calls t) (given t) reads.Post) → let a = c .before .before .before .args in a .v ≤ length (a .times .now)
+node-in t c =
+    let p = c .before .before .before .pre .1 in
+    fill-node (c .before .before .before .args .times .now) (p .1 .0 .1) (p .1 .1 .0) (omega arith)
+
+-- its place
+placed : (t : ℕ) (c : lts.After-root-place (calls t) (given t) reads.Post) → (1 ≤ c .root-place .result) × (c .root-place .result ≤ c .before .before .before .before .args .pins)
+placed t c = rw (c .root-place .ensures) (place-in (c .before .before .before .before .args .pins) (omega arith))
+
+-- its time
+time-is : (t : ℕ) (c : lts.After-root-place (calls t) (given t) reads.Post) → let a = c .before .before .before .before .args in
+    getD (a .times .now) (a .start + c .root-place .result - 1) 0 ≡ timeOf (a .times .now) (a .v)
+time-is t c =
+    let p = c .before .before .before .before .pre .1 in
+    rw (c .root-place .ensures) (fill-time (c .before .before .before .before .args .times .now) (p .1 .0 .1) (p .1 .1 .0))
+
 add-at : (t : ℕ) → lts.Need-add-at (calls t) (given t) reads.Post
-add-at t c = omega (arith, place-in (c .before .before .before .before .args .pins) (omega arith))
+add-at t c = omega (arith, placed t c)
 
 sub-at : (t : ℕ) → lts.Need-sub-at (calls t) (given t) reads.Post
-sub-at t c = omega (arith, place-in (c .before .before .before .before .args .pins) (omega arith))
+sub-at t c = omega (arith, placed t c)
 
 mul-time : (t : ℕ) → lts.Need-mul-time (calls t) (given t) reads.Post
-mul-time t c = omega (arith, place-in (c .before .before .before .before .args .pins) (omega arith))
+mul-time t c = omega (arith, placed t c)
 
 shared-slice-read-time : (t : ℕ) → lts.Need-shared-slice-read-time (calls t) (given t) reads.Post
-shared-slice-read-time t c = omega (arith, place-in (c .before .before .before .before .before .args .pins) (omega arith))
+shared-slice-read-time t c = omega (arith, placed t (c .before))
 
 stored-value-requires : (t : ℕ) → lts.Need-stored-value-requires (calls t) (given t) reads.Post
 stored-value-requires t c κs =
     let a = c .before .before .before .before .before .args in
     let p = c .before .before .before .before .before .pre .1 in
-    let x : getD (a .times .now) (a .start + c .before .root-place .result - 1) 0 ≡ timeOf (a .times .now) (a .v) =
-    rw (c .before .root-place .ensures) (fill-time (a .times .now) (a .v) (a .start) (a .pins) (p .1 .0 .1) (p .1 .1 .0)) in
-    let d = sides (a .times .now) (p .0) (a .v) (p .1 .0 .1) (fill-node (a .times .now) (a .v) (a .start) (a .pins) (p .1 .0 .1) (p .1 .1 .0) (omega arith)) in
+    let x = time-is t (c .before) in
+    let d = sides (a .times .now) (p .0) (a .v) (p .1 .0 .1) (node-in t (c .before .before)) in
     rw (x, ← (p .1 .1 .2)) (d .even, d .odd)
 
 sub-values : (t : ℕ) → lts.Need-sub-values (calls t) (given t) reads.Post
-sub-values t c =
-    let a = c .before .before .before .before .before .before .args in
-    let p = c .before .before .before .before .before .before .pre .1 in
-    omega (arith, fill-node (a .times .now) (a .v) (a .start) (a .pins) (p .1 .0 .1) (p .1 .1 .0) (omega arith))
+sub-values t c = omega (arith, node-in t (c .before .before .before))
 
 mul-values : (t : ℕ) → lts.Need-mul-values (calls t) (given t) reads.Post
-mul-values t c =
-    let a = c .before .before .before .before .before .before .args in
-    let p = c .before .before .before .before .before .before .pre .1 in
-    omega (arith, fill-node (a .times .now) (a .v) (a .start) (a .pins) (p .1 .0 .1) (p .1 .1 .0) (omega arith))
+mul-values t c = omega (arith, node-in t (c .before .before .before))
 
 slice-write-values : (t : ℕ) → lts.Need-slice-write-values (calls t) (given t) reads.Post
-slice-write-values t c =
-    let a = c .before .before .before .before .before .before .args in
-    let p = c .before .before .before .before .before .before .pre .1 in
-    omega (arith, fill-node (a .times .now) (a .v) (a .start) (a .pins) (p .1 .0 .1) (p .1 .1 .0) (omega arith))
+slice-write-values t c = omega (arith, node-in t (c .before .before .before))
+
+-- what it stores
+stored-is : (t : ℕ) (c : lts.After-stored-value (calls t) (given t) reads.Post) → let a = c .before .before .before .before .before .before .args in
+    c .stored-value .result ≡ stored (a .times .now) (a .v)
+unfolding stored
+stored-is t c = c .stored-value .ensures ∙ rw (time-is t (c .before .before), c .before .before .before .before .before .before .pre .1 .1 .1 .2)
 
 same-length : (t : ℕ) → lts.Need-same-length (calls t) (given t) reads.Post
 same-length t c =
@@ -87,75 +102,63 @@ same-length t c =
     length-set (a .values .now) (a .v - 1) (c .before .stored-value .result)
 
 returns-2 : (t : ℕ) → lts.Need-returns-2 (calls t) (given t) reads.Post
-unfolding stored
 returns-2 t c =
     let p = c .before .before .before .before .before .before .before .pre .1 in
     let a = c .before .before .before .before .before .before .before .args in
-    let x : getD (a .times .now) (a .start + c .before .before .before .root-place .result - 1) 0 ≡ timeOf (a .times .now) (a .v) =
-    rw (c .before .before .before .root-place .ensures) (fill-time (a .times .now) (a .v) (a .start) (a .pins) (p .1 .0 .1) (p .1 .1 .0)) in
-    let d : c .before .stored-value .result ≡ stored (a .times .now) (a .v) = c .before .stored-value .ensures ∙ rw (x, p .1 .1 .2) in
-    let k = fill-node (a .times .now) (a .v) (a .start) (a .pins) (p .1 .0 .1) (p .1 .1 .0) (omega arith) in
+    let d = stored-is t (c .before) in
+    let k = node-in t (c .before .before .before .before) in
     filled-leaf (a .times .now) (a .v) (a .values .now) (set (a .values .now) (a .v - 1) (c .before .stored-value .result))
-    (p .1 .0 .1) k (omega (arith, p .1 .0 .0)) (ap (set (a .values .now) (a .v - 1)) d) (fill-leaf (a .times .now) (a .v) (a .start) (a .pins) (p .1 .0 .1) (p .1 .1 .0) (c .if2 .taken))
+    (p .1 .0 .1) k (omega (arith, p .1 .0 .0)) (ap (set (a .values .now) (a .v - 1)) d) (fill-leaf (a .times .now) (p .1 .0 .1) (p .1 .1 .0) (c .if2 .taken))
 
 sub-fill : (t : ℕ) → lts.Need-sub-fill (calls t) (given t) reads.Post
-sub-fill t c = omega (arith, place-in (c .before .before .before .before .before .before .before .before .args .pins) (omega arith))
+sub-fill t c = omega (arith, placed t (c .before .before .before .before))
 
 mul-fill : (t : ℕ) → lts.Need-mul-fill (calls t) (given t) reads.Post
-mul-fill t c =
-    let a = c .before .before .before .before .before .before .before .before .args in
-    let p = c .before .before .before .before .before .before .before .before .pre .1 in
-    omega (arith, fill-node (a .times .now) (a .v) (a .start) (a .pins) (p .1 .0 .1) (p .1 .1 .0) (omega arith))
+mul-fill t c = omega (arith, node-in t (c .before .before .before .before .before))
 
 fill-requires : (t : ℕ) → lts.Need-fill-requires (calls t) (given t) reads.Post
+unfolding childOf
 fill-requires t c κs =
     let p = c .before .before .before .before .before .before .before .before .pre .1 in
     let a = c .before .before .before .before .before .before .before .before .args in
-    let x : getD (a .times .now) (a .start + c .before .before .before .before .root-place .result - 1) 0 ≡ timeOf (a .times .now) (a .v) =
-    rw (c .before .before .before .before .root-place .ensures) (fill-time (a .times .now) (a .v) (a .start) (a .pins) (p .1 .0 .1) (p .1 .1 .0)) in
-    let q = place-in (a .pins) (omega arith) in (
+    let x = time-is t (c .before .before .before .before) in
+    let q = placed t (c .before .before .before .before) in (
       omega (arith, c .before .before .before .before .before .before .before .before .pre .0),
       (
         p .0,
         (
           (rw length-set (p .1 .0 .0), omega arith),
-          (rw (c .before .before .before .before .root-place .ensures) (is-left (length (a .times .now)) (a .v) (a .start) (a .pins) (p .1 .0 .1) (p .1 .1 .0)), omega arith, above-left (a .times .now) (a .v) (p .1 .0 .1) ∙ sym x),
+          (rw (c .before .before .before .before .root-place .ensures) (is-child false (length (a .times .now)) (p .1 .0 .1) (p .1 .1 .0)), omega arith, above-side false (a .times .now) (a .v) (p .1 .0 .1) ∙ sym x),
         ),
       ),
     )
 
 add-fill : (t : ℕ) → lts.Need-add-fill (calls t) (given t) reads.Post
-add-fill t c = omega (arith, place-in (c .before .before .before .before .before .before .before .before .before .before .before .before .args .pins) (omega arith))
+add-fill t c = omega (arith, placed t (c .before .before .before .before .before .before .before .before))
 
 sub-fill-2 : (t : ℕ) → lts.Need-sub-fill-2 (calls t) (given t) reads.Post
-sub-fill-2 t c = omega (arith, place-in (c .before .before .before .before .before .before .before .before .before .before .before .before .args .pins) (omega arith))
+sub-fill-2 t c = omega (arith, placed t (c .before .before .before .before .before .before .before .before))
 
 mul-fill-2 : (t : ℕ) → lts.Need-mul-fill-2 (calls t) (given t) reads.Post
-mul-fill-2 t c =
-    let a = c .before .before .before .before .before .before .before .before .before .before .before .before .args in
-    let p = c .before .before .before .before .before .before .before .before .before .before .before .before .pre .1 in
-    omega (arith, fill-node (a .times .now) (a .v) (a .start) (a .pins) (p .1 .0 .1) (p .1 .1 .0) (omega arith))
+mul-fill-2 t c = omega (arith, node-in t (c .before .before .before .before .before .before .before .before .before))
 
 add-fill-2 : (t : ℕ) → lts.Need-add-fill-2 (calls t) (given t) reads.Post
-add-fill-2 t c =
-    let a = c .before .before .before .before .before .before .before .before .before .before .before .before .args in
-    let p = c .before .before .before .before .before .before .before .before .before .before .before .before .pre .1 in
-    omega (arith, fill-node (a .times .now) (a .v) (a .start) (a .pins) (p .1 .0 .1) (p .1 .1 .0) (omega arith))
+add-fill-2 t c = omega (arith, node-in t (c .before .before .before .before .before .before .before .before .before))
 
 fill-requires-2 : (t : ℕ) → lts.Need-fill-requires-2 (calls t) (given t) reads.Post
+unfolding childOf
 fill-requires-2 t c κs =
     let p = c .before .before .before .before .before .before .before .before .before .before .before .before .pre .1 in
     let a = c .before .before .before .before .before .before .before .before .before .before .before .before .args in
-    let x : getD (a .times .now) (a .start + c .before .before .before .before .before .before .before .before .root-place .result - 1) 0 ≡ timeOf (a .times .now) (a .v) =
-    rw (c .before .before .before .before .before .before .before .before .root-place .ensures) (fill-time (a .times .now) (a .v) (a .start) (a .pins) (p .1 .0 .1) (p .1 .1 .0)) in
-    let q = place-in (a .pins) (omega arith) in
+    let x = time-is t (c .before .before .before .before .before .before .before .before) in
+    let q = placed t (c .before .before .before .before .before .before .before .before) in
     let room : length (a .times .now) ≤ length (c .before .before .before .fill .last .0) = rw (c .before .before .before .fill .kept .0, length-set) (p .1 .0 .0) in (
       omega (arith, c .before .before .before .before .before .before .before .before .before .before .before .before .pre .0),
       (
         p .0,
         (
           (room, omega arith),
-          (rw (c .before .before .before .before .before .before .before .before .root-place .ensures) (is-right (length (a .times .now)) (a .v) (a .start) (a .pins) (p .1 .0 .1) (p .1 .1 .0)), omega arith, above-right (a .times .now) (a .v) (p .1 .0 .1) ∙ sym x),
+          (rw (c .before .before .before .before .before .before .before .before .root-place .ensures) (is-child true (length (a .times .now)) (p .1 .0 .1) (p .1 .1 .0)), omega arith, above-side true (a .times .now) (a .v) (p .1 .0 .1) ∙ sym x),
         ),
       ),
     )
@@ -166,14 +169,11 @@ same-length-2 t c =
     c .before .before .fill2 .kept .0 ∙ c .before .before .before .before .before .before .fill .kept .0 ∙ length-set (a .values .now) (a .v - 1) (c .before .before .before .before .before .before .before .before .before .stored-value .result)
 
 returns-3 : (t : ℕ) → lts.Need-returns-3 (calls t) (given t) reads.Post
-unfolding stored
 returns-3 t c =
     let p = c .before .before .before .before .before .before .before .before .before .before .before .before .before .before .before .pre .1 in
     let a = c .before .before .before .before .before .before .before .before .before .before .before .before .before .before .before .args in
-    let x : getD (a .times .now) (a .start + c .before .before .before .before .before .before .before .before .before .before .before .root-place .result - 1) 0 ≡ timeOf (a .times .now) (a .v) =
-    rw (c .before .before .before .before .before .before .before .before .before .before .before .root-place .ensures) (fill-time (a .times .now) (a .v) (a .start) (a .pins) (p .1 .0 .1) (p .1 .1 .0)) in
-    let d : c .before .before .before .before .before .before .before .before .before .stored-value .result ≡ stored (a .times .now) (a .v) = c .before .before .before .before .before .before .before .before .before .stored-value .ensures ∙ rw (x, p .1 .1 .2) in
-    let k = fill-node (a .times .now) (a .v) (a .start) (a .pins) (p .1 .0 .1) (p .1 .1 .0) (omega arith) in
+    let d = stored-is t (c .before .before .before .before .before .before .before .before .before) in
+    let k = node-in t (c .before .before .before .before .before .before .before .before .before .before .before .before) in
     filled-node (a .times .now) (a .v) (a .values .now) (set (a .values .now) (a .v - 1) (c .before .before .before .before .before .before .before .before .before .stored-value .result)) (c .before .before .before .before .before .before .fill .last .0) (c .before .before .fill2 .last .0)
     (p .1 .0 .1) k (omega (arith, p .1 .0 .0)) (ap (set (a .values .now) (a .v - 1)) d) (c .before .before .before .before .before .before .fill .ensures) (c .before .before .fill2 .ensures)
 

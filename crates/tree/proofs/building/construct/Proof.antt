@@ -1,5 +1,4 @@
 -- `construct` meets its contract.
-use mathlib.Core.Path.{refl}
 use native.Mathlib.Omega.{arith}
 use lib.ListN.{length}
 use Rattle.tree.proofs.Stretches.{stretch-root}
@@ -12,7 +11,7 @@ use Rattle.tree.proofs.building.construct.Tie as tie
 fill-requires : tie.Need-fill-requires
 fill-requires c κs =
     let xs = c .before .before .before .args .times .now in
-    (c .before .before .before .pre .0, ((c .before .before .before .pre .1, omega arith), (rw (stretch-root (length xs)) (refl, refl), omega arith, above-root xs 1 (omega arith))))
+    (c .before .before .before .pre .0, ((c .before .before .before .pre .1, omega arith), (stretch-root (length xs), omega arith, above-root xs 1 (omega arith))))
 
 same-length : tie.Need-same-length
 same-length c = search needs

@@ -1,18 +1,12 @@
 -- `list_under` meets its contract.
 use native.Mathlib.Omega.{arith}
 use mathlib.Core.Path.{_≡_, refl, sym, ap, _∙_}
-use mathlib.Core.List.{List}
 use Prim.Native.Nat.{ℕ, _+_, _-_, _≤_, _<_}
 use lib.ListN.{length, set, length-set}
-use Rattle.tree.specs.declared.shape.Stretch.{Stretch}
-use Rattle.tree.specs.declared.nodes.Levels.{Levels}
-use Rattle.tree.specs.Levels.{Fits, fetchedAt}
-use Rattle.tree.specs.Times.{at, nodeTime, timeOpened}
+use Rattle.tree.specs.Times.{at, timesIn}
 use Rattle.tree.specs.Listing.{timesFrom, stopFrom, listed}
-use Rattle.tree.specs.Standing.{Stands}
-use Rattle.tree.proofs.Heights.{place-in}
 use Rattle.tree.proofs.NodeFetches.{Level}
-use Rattle.tree.proofs.Steps.{stands-node, stands-level, stands-opened}
+use Rattle.tree.proofs.Steps.{stands-node, stands-place, stands-level, stands-opened}
 use Rattle.tree.proofs.Buffers.{replaced-none}
 use Rattle.tree.proofs.Listings.{listed-refused, stands-left, stands-right, listed-left, listed-right}
 use borrow.Author.Needs.{needs}
@@ -41,13 +35,25 @@ asked t = and 2 kinds.ps (falls 2 kinds.ps _<_ μ t) reads.Pre
 abbrev calls : ℕ → In 2 open-at-kinds.ps × Out 2 open-at-kinds.ps open-at-kinds.r × In 0 root-place-kinds.ps × Out 0 root-place-kinds.ps root-place-kinds.r × In 2 kinds.ps × Out 2 kinds.ps kinds.r
 calls t = (open-at-reads.Asked, open-at-reads.Learnt, root-place-reads.Asked, root-place-reads.Learnt, asked t, reads.Post)
 
--- the level of a node that has pins lies in the bytes
-level : {levels : Levels} {s : List ℕ} {v depth above : ℕ} {here : Stretch} → Fits levels s → Stands levels s v depth here above → 1 ≤ here .pins → Level levels s depth
-level f w some = stands-level w f (stands-node w some)
+-- the time of the node
+time-is : (t : ℕ) (c : lts.After-opened (calls t) (given t) reads.Post) → let a = c .before .before .before .before .before .before .before .before .before .before .before .args in
+    timesIn (a .t3) (a .s .now) (a .v) ≡ at (c .opened .given .0 .0)
+time-is t c = stands-opened (c .before .before .before .before .before .before .before .before .before .before .before .pre .1 .1 .0) (c .before .before .open-at .ensures) (c .opened .given .1)
+
+-- the node is one of the tree, and its level lies in the bytes; its place is in its stretch, and that in the list
+bounds : (t : ℕ) (c : lts.After-root-place (calls t) (given t) reads.Post) → let a = c .before .before .before .before .before .before .before .before .before .before .before .before .before .args in
+    Level (a .t3) (a .s .now) (a .depth) × (a .v ≤ a .t3 .pins) × (1 ≤ c .root-place .result) × (c .root-place .result ≤ a .pins) × (a .start + a .pins ≤ a .t3 .pins)
+bounds t c =
+    let p = c .before .before .before .before .before .before .before .before .before .before .before .before .before .pre .1 in
+    let node = stands-node (p .1 .0) (omega arith) in
+    let place = rw (← (c .root-place .ensures)) at (stands-place (p .1 .0) node) in
+    (stands-level (p .1 .0) (p .0 .0) node, node, place .0, place .1, p .1 .0 .inside)
 
 returns : (t : ℕ) → lts.Need-returns (calls t) (given t) reads.Post
 unfolding stopFrom timesFrom
-returns t c = rw (c .if1 .taken) (refl, sym (replaced-none (c .before .before .before .args .times .now) (c .before .before .before .args .start)))
+returns t c =
+    let a = c .before .before .before .args in
+    rw (c .if1 .taken) (refl, sym (replaced-none (a .times .now) (a .start)))
 
 open-at-requires : (t : ℕ) → lts.Need-open-at-requires (calls t) (given t) reads.Post
 open-at-requires t c κs =
@@ -62,29 +68,29 @@ enum-known-opened-2 t c = search needs
 
 returns-2 : (t : ℕ) → lts.Need-returns-2 (calls t) (given t) reads.Post
 returns-2 t c =
+    let a = c .before .before .before .before .before .before .before .before .before .before .before .before .args in
     let w = c .before .before .before .before .before .before .before .before .before .before .before .before .pre .1 .1 .0 in
-    let e = sym (stands-opened w) ∙ sym (c .before .before .before .open-at .ensures) ∙ ap timeOpened (c .before .opened2 .given .1) in
+    let e = stands-opened w (c .before .before .before .open-at .ensures) (c .before .opened2 .given .1) in
     let z = listed-refused w (c .before .before .before .before .before .before .before .before .before .before .before .before .pre .1 .1 .1) (omega arith) _ _ e in
-    (sym (z .0), sym (rw (z .1) (replaced-none (c .before .before .before .before .before .before .before .before .before .before .before .before .args .times .now) (c .before .before .before .before .before .before .before .before .before .before .before .before .args .start))))
+    (sym (z .0), sym (rw (z .1) (replaced-none (a .times .now) (a .start))))
 
 root-place-requires : (t : ℕ) → lts.Need-root-place-requires (calls t) (given t) reads.Post
 root-place-requires t c κs = tt
 
 sub-list-under : (t : ℕ) → lts.Need-sub-list-under (calls t) (given t) reads.Post
-sub-list-under t c = omega (arith, place-in (c .before .before .before .before .before .before .before .before .before .before .before .before .before .before .args .pins) (omega arith))
+sub-list-under t c = omega (arith, bounds t (c .before))
 
 mul-list-under : (t : ℕ) → lts.Need-mul-list-under (calls t) (given t) reads.Post
-mul-list-under t c = omega (arith, level (c .before .before .before .before .before .before .before .before .before .before .before .before .before .before .pre .1 .0 .0) (c .before .before .before .before .before .before .before .before .before .before .before .before .before .before .pre .1 .1 .0) (omega arith), stands-node (c .before .before .before .before .before .before .before .before .before .before .before .before .before .before .pre .1 .1 .0) (omega arith))
+mul-list-under t c = omega (arith, bounds t (c .before))
 
 add-list-under : (t : ℕ) → lts.Need-add-list-under (calls t) (given t) reads.Post
-add-list-under t c = omega (arith, level (c .before .before .before .before .before .before .before .before .before .before .before .before .before .before .pre .1 .0 .0) (c .before .before .before .before .before .before .before .before .before .before .before .before .before .before .pre .1 .1 .0) (omega arith))
+add-list-under t c = omega (arith, bounds t (c .before))
 
 list-under-requires : (t : ℕ) → lts.Need-list-under-requires (calls t) (given t) reads.Post
 list-under-requires t c κs =
     let p = c .before .before .before .before .before .before .before .before .before .before .before .before .before .before .pre .1 in
-    let e : nodeTime (fetchedAt (c .before .before .before .before .before .before .before .before .before .before .before .before .before .before .args .t3) (c .before .before .before .before .before .before .before .before .before .before .before .before .before .before .args .s .now)) (c .before .before .before .before .before .before .before .before .before .before .before .before .before .before .args .v) ≡ at (c .before .before .before .opened .given .0 .0) =
-    sym (stands-opened (p .1 .0)) ∙ sym (c .before .before .before .before .before .open-at .ensures) ∙ ap timeOpened (c .before .before .before .opened .given .1) in
-    (omega (arith, c .before .before .before .before .before .before .before .before .before .before .before .before .before .before .pre .0, place-in (c .before .before .before .before .before .before .before .before .before .before .before .before .before .before .args .pins) (omega arith)), (p .0, stands-left (p .1 .0) (p .1 .1) (omega arith) _ e _ (c .before .root-place .ensures)))
+    let e = time-is t (c .before .before .before) in
+    (omega (arith, bounds t (c .before), c .before .before .before .before .before .before .before .before .before .before .before .before .before .before .pre .0), (p .0, stands-left (p .1 .0) (p .1 .1) (omega arith) _ e _ (c .before .root-place .ensures)))
 
 enum-told : (t : ℕ) → lts.Need-enum-told (calls t) (given t) reads.Post
 enum-told t c = search needs
@@ -98,46 +104,45 @@ same-length t c = c .before .before .before .before .before .list-under .kept .0
 returns-3 : (t : ℕ) → lts.Need-returns-3 (calls t) (given t) reads.Post
 returns-3 t c =
     let p = c .before .before .before .before .before .before .before .before .before .before .before .before .before .before .before .before .before .before .before .before .pre .1 in
-    let e : nodeTime (fetchedAt (c .before .before .before .before .before .before .before .before .before .before .before .before .before .before .before .before .before .before .before .before .args .t3) (c .before .before .before .before .before .before .before .before .before .before .before .before .before .before .before .before .before .before .before .before .args .s .now)) (c .before .before .before .before .before .before .before .before .before .before .before .before .before .before .before .before .before .before .before .before .args .v) ≡ at (c .before .before .before .before .before .before .before .before .before .opened .given .0 .0) =
-    sym (stands-opened (p .1 .0)) ∙ sym (c .before .before .before .before .before .before .before .before .before .before .before .open-at .ensures) ∙ ap timeOpened (c .before .before .before .before .before .before .before .before .before .opened .given .1) in
+    let e = time-is t (c .before .before .before .before .before .before .before .before .before) in
     listed-left (p .1 .0) (p .1 .1) (omega arith) _ e _ (c .before .before .before .before .before .before .before .root-place .ensures) (c .before .before .before .before .before .before .before .before .before .before .before .before .before .before .before .before .before .before .before .before .args .times .now) (c .before .before .before .before .before .list-under .last .0) (c .before .before .before .before .before .list-under .ensures .1)
     _ _ _ _ refl (sym (ap listed (c .before .left .given .1)) ∙ c .before .before .before .before .before .list-under .ensures .0)
 
 add-at : (t : ℕ) → lts.Need-add-at (calls t) (given t) reads.Post
-add-at t c = omega (arith, place-in (c .before .before .before .before .before .before .before .before .before .before .before .before .before .before .before .before .before .before .before .args .pins) (omega arith), c .before .before .before .before .before .before .before .before .before .before .before .before .before .before .before .before .before .before .before .pre .1 .1 .0 .inside, level (c .before .before .before .before .before .before .before .before .before .before .before .before .before .before .before .before .before .before .before .pre .1 .0 .0) (c .before .before .before .before .before .before .before .before .before .before .before .before .before .before .before .before .before .before .before .pre .1 .1 .0) (omega arith))
+add-at t c = omega (arith, bounds t (c .before .before .before .before .before .before))
 
 sub-at : (t : ℕ) → lts.Need-sub-at (calls t) (given t) reads.Post
-sub-at t c = omega (arith, place-in (c .before .before .before .before .before .before .before .before .before .before .before .before .before .before .before .before .before .before .before .args .pins) (omega arith))
+sub-at t c = omega (arith, bounds t (c .before .before .before .before .before .before))
 
 mul-times : (t : ℕ) → lts.Need-mul-times (calls t) (given t) reads.Post
-mul-times t c = omega (arith, place-in (c .before .before .before .before .before .before .before .before .before .before .before .before .before .before .before .before .before .before .before .args .pins) (omega arith), c .before .before .before .before .before .before .before .before .before .before .before .before .before .before .before .before .before .before .before .pre .1 .1 .0 .inside, level (c .before .before .before .before .before .before .before .before .before .before .before .before .before .before .before .before .before .before .before .pre .1 .0 .0) (c .before .before .before .before .before .before .before .before .before .before .before .before .before .before .before .before .before .before .before .pre .1 .1 .0) (omega arith))
+mul-times t c = omega (arith, bounds t (c .before .before .before .before .before .before))
 
 slice-write-times : (t : ℕ) → lts.Need-slice-write-times (calls t) (given t) reads.Post
-slice-write-times t c = omega (arith, place-in (c .before .before .before .before .before .before .before .before .before .before .before .before .before .before .before .before .before .before .before .args .pins) (omega arith), c .before .before .before .before .before .before .before .before .before .before .before .before .before .before .before .before .before .before .before .pre .1 .1 .0 .inside, c .before .before .before .before .before .before .before .before .before .before .before .before .before .before .before .before .before .before .before .pre .1 .0 .1, c .before .before .before .before .list-under .kept .0)
+slice-write-times t c = omega (arith, bounds t (c .before .before .before .before .before .before), c .before .before .before .before .before .before .before .before .before .before .before .before .before .before .before .before .before .before .before .pre .1 .0 .1, c .before .before .before .before .list-under .kept .0)
 
 add-list-under-2 : (t : ℕ) → lts.Need-add-list-under-2 (calls t) (given t) reads.Post
-add-list-under-2 t c = omega (arith, place-in (c .before .before .before .before .before .before .before .before .before .before .before .before .before .before .before .before .before .before .before .before .args .pins) (omega arith), c .before .before .before .before .before .before .before .before .before .before .before .before .before .before .before .before .before .before .before .before .pre .1 .1 .0 .inside, level (c .before .before .before .before .before .before .before .before .before .before .before .before .before .before .before .before .before .before .before .before .pre .1 .0 .0) (c .before .before .before .before .before .before .before .before .before .before .before .before .before .before .before .before .before .before .before .before .pre .1 .1 .0) (omega arith))
+add-list-under-2 t c = omega (arith, bounds t (c .before .before .before .before .before .before .before))
 
 sub-list-under-2 : (t : ℕ) → lts.Need-sub-list-under-2 (calls t) (given t) reads.Post
-sub-list-under-2 t c = omega (arith, place-in (c .before .before .before .before .before .before .before .before .before .before .before .before .before .before .before .before .before .before .before .before .args .pins) (omega arith))
+sub-list-under-2 t c = omega (arith, bounds t (c .before .before .before .before .before .before .before))
 
 mul-list-under-2 : (t : ℕ) → lts.Need-mul-list-under-2 (calls t) (given t) reads.Post
-mul-list-under-2 t c = omega (arith, level (c .before .before .before .before .before .before .before .before .before .before .before .before .before .before .before .before .before .before .before .before .pre .1 .0 .0) (c .before .before .before .before .before .before .before .before .before .before .before .before .before .before .before .before .before .before .before .before .pre .1 .1 .0) (omega arith), stands-node (c .before .before .before .before .before .before .before .before .before .before .before .before .before .before .before .before .before .before .before .before .pre .1 .1 .0) (omega arith))
+mul-list-under-2 t c = omega (arith, bounds t (c .before .before .before .before .before .before .before))
 
 add-list-under-3 : (t : ℕ) → lts.Need-add-list-under-3 (calls t) (given t) reads.Post
-add-list-under-3 t c = omega (arith, level (c .before .before .before .before .before .before .before .before .before .before .before .before .before .before .before .before .before .before .before .before .pre .1 .0 .0) (c .before .before .before .before .before .before .before .before .before .before .before .before .before .before .before .before .before .before .before .before .pre .1 .1 .0) (omega arith), stands-node (c .before .before .before .before .before .before .before .before .before .before .before .before .before .before .before .before .before .before .before .before .pre .1 .1 .0) (omega arith))
+add-list-under-3 t c = omega (arith, bounds t (c .before .before .before .before .before .before .before))
 
 add-list-under-4 : (t : ℕ) → lts.Need-add-list-under-4 (calls t) (given t) reads.Post
-add-list-under-4 t c = omega (arith, level (c .before .before .before .before .before .before .before .before .before .before .before .before .before .before .before .before .before .before .before .before .pre .1 .0 .0) (c .before .before .before .before .before .before .before .before .before .before .before .before .before .before .before .before .before .before .before .before .pre .1 .1 .0) (omega arith))
+add-list-under-4 t c = omega (arith, bounds t (c .before .before .before .before .before .before .before))
 
 list-under-requires-2 : (t : ℕ) → lts.Need-list-under-requires-2 (calls t) (given t) reads.Post
 list-under-requires-2 t c κs =
+    let a = c .before .before .before .before .before .before .before .before .before .before .before .before .before .before .before .before .before .before .before .before .args in
     let p = c .before .before .before .before .before .before .before .before .before .before .before .before .before .before .before .before .before .before .before .before .pre .1 in
-    let e : nodeTime (fetchedAt (c .before .before .before .before .before .before .before .before .before .before .before .before .before .before .before .before .before .before .before .before .args .t3) (c .before .before .before .before .before .before .before .before .before .before .before .before .before .before .before .before .before .before .before .before .args .s .now)) (c .before .before .before .before .before .before .before .before .before .before .before .before .before .before .before .before .before .before .before .before .args .v) ≡ at (c .before .before .before .before .before .before .before .before .before .opened .given .0 .0) =
-    sym (stands-opened (p .1 .0)) ∙ sym (c .before .before .before .before .before .before .before .before .before .before .before .open-at .ensures) ∙ ap timeOpened (c .before .before .before .before .before .before .before .before .before .opened .given .1) in
-    let room : c .before .before .before .before .before .before .before .before .before .before .before .before .before .before .before .before .before .before .before .before .args .t3 .pins ≤ length (set (c .before .before .before .before .before .list-under .last .0) (c .before .before .before .before .before .before .before .before .before .before .before .before .before .before .before .before .before .before .before .before .args .start + c .before .before .before .before .before .before .before .root-place .result - 1) (c .before .before .before .before .before .before .before .before .before .opened .given .0 .0)) =
-    omega (arith, length-set (c .before .before .before .before .before .list-under .last .0) (c .before .before .before .before .before .before .before .before .before .before .before .before .before .before .before .before .before .before .before .before .args .start + c .before .before .before .before .before .before .before .root-place .result - 1) (c .before .before .before .before .before .before .before .before .before .opened .given .0 .0), c .before .before .before .before .before .list-under .kept .0, p .0 .1) in
-    (omega (arith, c .before .before .before .before .before .before .before .before .before .before .before .before .before .before .before .before .before .before .before .before .pre .0, place-in (c .before .before .before .before .before .before .before .before .before .before .before .before .before .before .before .before .before .before .before .before .args .pins) (omega arith)), ((p .0 .0, room), stands-right (p .1 .0) (p .1 .1) (omega arith) _ e _ (c .before .before .before .before .before .before .before .root-place .ensures)))
+    let e = time-is t (c .before .before .before .before .before .before .before .before .before) in
+    let room : a .t3 .pins ≤ length (set (c .before .before .before .before .before .list-under .last .0) (a .start + c .before .before .before .before .before .before .before .root-place .result - 1) (c .before .before .before .before .before .before .before .before .before .opened .given .0 .0)) =
+    omega (arith, length-set (c .before .before .before .before .before .list-under .last .0) (a .start + c .before .before .before .before .before .before .before .root-place .result - 1) (c .before .before .before .before .before .before .before .before .before .opened .given .0 .0), c .before .before .before .before .before .list-under .kept .0, p .0 .1) in
+    (omega (arith, bounds t (c .before .before .before .before .before .before .before), c .before .before .before .before .before .before .before .before .before .before .before .before .before .before .before .before .before .before .before .before .pre .0), ((p .0 .0, room), stands-right (p .1 .0) (p .1 .1) (omega arith) _ e _ (c .before .before .before .before .before .before .before .root-place .ensures)))
 
 same-length-2 : (t : ℕ) → lts.Need-same-length-2 (calls t) (given t) reads.Post
 same-length-2 t c = c .before .before .list-under2 .kept .0 ∙ length-set (c .before .before .before .before .before .before .before .before .list-under .last .0) (c .before .before .before .before .before .before .before .before .before .before .before .before .before .before .before .before .before .before .before .before .before .before .before .args .start + c .before .before .before .before .before .before .before .before .before .before .root-place .result - 1) (c .before .before .before .before .before .before .before .before .before .before .before .before .opened .given .0 .0) ∙ c .before .before .before .before .before .before .before .before .list-under .kept .0
@@ -145,8 +150,7 @@ same-length-2 t c = c .before .before .list-under2 .kept .0 ∙ length-set (c .b
 returns-4 : (t : ℕ) → lts.Need-returns-4 (calls t) (given t) reads.Post
 returns-4 t c =
     let p = c .before .before .before .before .before .before .before .before .before .before .before .before .before .before .before .before .before .before .before .before .before .before .before .pre .1 in
-    let e : nodeTime (fetchedAt (c .before .before .before .before .before .before .before .before .before .before .before .before .before .before .before .before .before .before .before .before .before .before .before .args .t3) (c .before .before .before .before .before .before .before .before .before .before .before .before .before .before .before .before .before .before .before .before .before .before .before .args .s .now)) (c .before .before .before .before .before .before .before .before .before .before .before .before .before .before .before .before .before .before .before .before .before .before .before .args .v) ≡ at (c .before .before .before .before .before .before .before .before .before .before .before .before .opened .given .0 .0) =
-    sym (stands-opened (p .1 .0)) ∙ sym (c .before .before .before .before .before .before .before .before .before .before .before .before .before .before .open-at .ensures) ∙ ap timeOpened (c .before .before .before .before .before .before .before .before .before .before .before .before .opened .given .1) in
+    let e = time-is t (c .before .before .before .before .before .before .before .before .before .before .before .before) in
     listed-right (p .1 .0) (p .1 .1) (omega arith) _ e _ (c .before .before .before .before .before .before .before .before .before .before .root-place .ensures) (c .before .before .before .before .before .before .before .before .before .before .before .before .before .before .before .before .before .before .before .before .before .before .before .args .times .now) (c .before .before .before .before .before .before .before .before .list-under .last .0) (c .before .before .before .before .before .before .before .before .list-under .ensures .1)
     (sym (ap listed (c .before .before .before .before .enum-told .given .1)) ∙ c .before .before .before .before .before .before .before .before .list-under .ensures .0) (omega (arith, p .1 .0 .inside, p .0 .1))
     (listed (c .before .before .list-under2 .result)) (c .before .before .list-under2 .last .0) (c .before .before .list-under2 .ensures .0) (c .before .before .list-under2 .ensures .1)

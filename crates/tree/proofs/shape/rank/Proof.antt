@@ -1,5 +1,5 @@
 -- `rank` meets its contract.
-use mathlib.Core.Path.{_≡_, refl, ap}
+use mathlib.Core.Path.{_≡_, ap}
 use Prim.Native.Nat.{_-_, _/_, _^_}
 use native.Mathlib.Omega.{arith}
 use borrow.Author.Tests.{lt-ltb, le-ltb, ne-eqb}
@@ -29,14 +29,14 @@ rank-under-requires : tie.Need-rank-under-requires
 rank-under-requires c κs =
     let a = c .before .before .before .args in
     let e : a .v / 2 ^ (c .height .result - 1) ≡ 1 = rw (c .height .ensures) (top-digit (a .v) (omega arith)) in
-    ((omega (arith, height-le (a .v) 64 (omega arith)), omega arith, omega arith), (a .n, omega arith, rw (e, stretch-root (a .n)) (refl, refl)))
+    ((omega (arith, height-le (a .v) 64 (omega arith)), omega arith, omega arith), (a .n, omega arith, rw e (stretch-root (a .n))))
 
 returns-3 : tie.Need-returns-3
 unfolding ranked
 returns-3 c =
     let a = c .before .before .before .before .args in
     let e : a .v / 2 ^ (c .before .height .result - 1) ≡ 1 = rw (c .before .height .ensures) (top-digit (a .v) (omega arith)) in
-    rw (ne-eqb (a .v) 0 (omega arith), le-ltb (a .n) (a .v) (omega arith)) (ap At (c .rank-under .ensures (a .n) (rw (e, stretch-root (a .n)) (refl, refl))))
+    rw (ne-eqb (a .v) 0 (omega arith), le-ltb (a .n) (a .v) (omega arith)) (ap At (c .rank-under .ensures (a .n) (rw e (stretch-root (a .n)))))
 
 pub rank-spec : {M : Type 1} → statement M
 rank-spec =

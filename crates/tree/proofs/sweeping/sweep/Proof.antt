@@ -10,24 +10,23 @@ use native.Mathlib.Numerals.{add-one}
 use borrow.Author.Tests.{ne-eqb, eqb-true}
 use lib.ListN.{length, getD, drop, drop-of-length-le, set, length-set}
 use lib.Seq.{drop-cons}
-use Rattle.tree.specs.Levels.{fetchedAt}
-use Rattle.tree.specs.Times.{nodeTime}
+use Rattle.tree.specs.Times.{timesIn}
 use Rattle.tree.specs.Buffers.{replaced}
 use Rattle.tree.specs.Walks.{found}
 use Rattle.tree.specs.Sweeps.{Sweep, sweepFrom, sweep}
-use Rattle.tree.specs.Remembering.{entries, answerBy, Between, keptAfter, sweepOn}
+use Rattle.tree.specs.Remembering.{entries, keptIn, answerBy, Rests, Between, keptAfter}
 use Rattle.tree.proofs.NodeFetches.{pins-bound}
 use Rattle.tree.proofs.Buffers.{replaced-none, replaced-next}
 use Rattle.tree.proofs.Remembering.{keeps-none, keeps-few, remembers-opened}
-use Rattle.tree.proofs.Dropping.{keeps-before-end, sweep-next}
+use Rattle.tree.proofs.Dropping.{keeps-before-end, sweepOn, sweep-next}
 use Rattle.tree.proofs.sweeping.sweep.Statement.{statement}
 use Rattle.tree.proofs.sweeping.sweep.Tie as tie
 
 abbrev Inv-loop : tie.InvT-loop
 Inv-loop answers₀ s levels targets kept₀ nodes₀ i₀ answers kept nodes i =
     (i ≤ length targets) × (length answers ≡ length answers₀) × Between levels s kept (eqb i 0) nodes
-    × (sweep (levels .pins) (nodeTime (fetchedAt levels s)) targets .answer ≡ sweepOn levels s kept (eqb i 0) nodes (drop i targets) .answer)
-    × (replaced answers₀ 0 (sweep (levels .pins) (nodeTime (fetchedAt levels s)) targets .positions)
+    × (sweep (levels .pins) (timesIn levels s) targets .answer ≡ sweepOn levels s kept (eqb i 0) nodes (drop i targets) .answer)
+    × (replaced answers₀ 0 (sweep (levels .pins) (timesIn levels s) targets .positions)
     ≡ replaced answers i (sweepOn levels s kept (eqb i 0) nodes (drop i targets) .positions))
 
 abbrev μ-loop : tie.MeasureT-loop
@@ -71,23 +70,22 @@ returns c =
     let d = ap (sweepOn (a .levels) (a .s .now) (l .kept) first (l .nodes)) (drop-cons (a .targets .now) (l .i) 0 (omega arith)) ∙ e in
     (sym (l .inv .3 ∙ ap (λ (x : Sweep). x .answer) d), sym (l .inv .4 ∙ ap (λ (x : Sweep). replaced (l .answers) (l .i) (x .positions)) d ∙ replaced-none (l .answers) (l .i)))
 
+-- what a target that is not refused leaves remembered
+left : (c : tie.After-ending Inv-loop μ-loop) → let a = c .before .before .before .before .before .before .before .before .before .before .args in let l = c .before .before .before .before .before .loop in let r = c .before .before .next-target .result in
+    (keptIn (r .kept) ≡ keptAfter (a .levels) (a .s .now) (l .kept) (eqb (l .i) 0) (getD (a .targets .now) (l .i) 0)) × Rests (a .levels) (a .s .now) (r .kept) (c .ending .given .0 .0)
+left c =
+    let a = c .before .before .before .before .before .before .before .before .before .before .args in
+    remembers-opened (a .levels) (a .s .now) (c .before .before .next-target .result) _ _ (c .ending .given .1) (c .before .before .next-target .ensures .1)
+
 position-of-requires : tie.Need-position-of-requires Inv-loop μ-loop
 position-of-requires c κs =
     let a = c .before .before .before .before .before .before .before .before .before .before .before .before .args in
-    let l = c .before .before .before .before .before .before .before .loop in
-    let t = getD (a .targets .now) (l .i) 0 in
-    let r = c .before .before .before .before .next-target .result in
-    let left = remembers-opened (a .levels) (a .s .now) r _ (keptAfter (a .levels) (a .s .now) (l .kept) (eqb (l .i) 0) t) (c .before .before .ending .given .1) (c .before .before .before .before .next-target .ensures .1) in
-    keeps-few (a .levels) (a .s .now) (r .kept) (c .before .before .before .before .before .before .before .before .before .before .before .before .pre .0) (left .1 .keeps)
+    keeps-few (a .levels) (a .s .now) (c .before .before .before .before .next-target .result .kept) (c .before .before .before .before .before .before .before .before .before .before .before .before .pre .0) (left (c .before .before) .1 .keeps)
 
 cast-answers : tie.Need-cast-answers Inv-loop μ-loop
 cast-answers c =
     let a = c .before .before .before .before .before .before .before .before .before .before .before .before .before .args in
-    let l = c .before .before .before .before .before .before .before .before .loop in
-    let t = getD (a .targets .now) (l .i) 0 in
-    let r = c .before .before .before .before .before .next-target .result in
-    let left = remembers-opened (a .levels) (a .s .now) r _ (keptAfter (a .levels) (a .s .now) (l .kept) (eqb (l .i) 0) t) (c .before .before .before .ending .given .1) (c .before .before .before .before .before .next-target .ensures .1) in
-    omega (arith, c .position-of .ensures, keeps-before-end (a .levels) (a .s .now) (r .kept) (left .1 .keeps), pins-bound (a .levels) (a .s .now) (c .before .before .before .before .before .before .before .before .before .before .before .before .before .pre .0))
+    omega (arith, c .position-of .ensures, keeps-before-end (a .levels) (a .s .now) (c .before .before .before .before .before .next-target .result .kept) (left (c .before .before .before) .1 .keeps), pins-bound (a .levels) (a .s .now) (c .before .before .before .before .before .before .before .before .before .before .before .before .before .pre .0))
 
 mul-answers : tie.Need-mul-answers Inv-loop μ-loop
 mul-answers c = omega arith
@@ -106,7 +104,7 @@ loop-again c =
     let a = c .before .before .before .before .before .before .before .before .before .before .before .before .before .args in
     let l = c .before .before .before .before .before .before .before .before .loop in
     let n = a .levels .pins in
-    let read = nodeTime (fetchedAt (a .levels) (a .s .now)) in
+    let read = timesIn (a .levels) (a .s .now) in
     let r = c .before .before .before .before .before .next-target .result in
     let k = c .before .before .before .ending .given .0 .0 in
     let i = l .i in
@@ -114,16 +112,16 @@ loop-again c =
     let ts = drop (suc i) (a .targets .now) in
     let first = eqb i 0 in
     let kept = keptAfter (a .levels) (a .s .now) (l .kept) first t in
-    let left = remembers-opened (a .levels) (a .s .now) r k kept (c .before .before .before .ending .given .1) (c .before .before .before .before .before .next-target .ensures .1) in
+    let rests = left (c .before .before .before) in
     let later : eqb (i + 1) 0 ≡ false = ne-eqb (i + 1) 0 (λ e. omega arith) in
     let e = ap (sweepOn (a .levels) (a .s .now) (l .kept) first (l .nodes)) (drop-cons (a .targets .now) i 0 (omega arith))
     ∙ sweep-next (a .levels) (a .s .now) (l .kept) first (l .nodes) t ts (found (c .position-of .result) k)
     (sym (c .before .before .before .before .before .next-target .ensures .0) ∙ ap (answerBy _) (c .before .before .before .ending .given .1) ∙ ap (λ (p : ℕ). found p k) (sym (c .position-of .ensures))) in
     let on : sweepFrom n read (suc n) kept k ts ≡ sweepOn (a .levels) (a .s .now) (r .kept) (eqb (i + 1) 0) k (drop (i + 1) (a .targets .now)) =
-    rw (later, add-one i) (ap (λ (us : List ℕ). sweepFrom n read (suc n) us k ts) (sym (left .0))) in (
+    rw (later, add-one i) (ap (λ (us : List ℕ). sweepFrom n read (suc n) us k ts) (sym (rests .0))) in (
       omega arith,
       length-set (l .answers) i (c .position-of .result) ∙ l .inv .1,
-      (left .1, λ h. absurd (omega (arith, eqb-true (i + 1) 0 h))),
+      (rests .1, λ h. absurd (omega (arith, eqb-true (i + 1) 0 h))),
       l .inv .3 ∙ ap (λ (x : Sweep). x .answer) e ∙ ap (λ (x : Sweep). x .answer) on,
       l .inv .4 ∙ ap (λ (x : Sweep). replaced (l .answers) i (x .positions)) e ∙ sym (replaced-next (l .answers) i (c .position-of .result) _ (omega (arith, c .before .before .before .before .before .before .before .before .before .before .before .before .before .pre .1))) ∙ ap (λ (x : Sweep). replaced (set (l .answers) i (c .position-of .result)) (i + 1) (x .positions)) on,
     )

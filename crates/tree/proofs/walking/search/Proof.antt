@@ -2,8 +2,7 @@
 use mathlib.Core.Path.{sym, ap, subst, _∙_}
 use Prim.Native.Nat.{ℕ}
 use Rattle.tree.specs.declared.targets.Remembered.{Remembered}
-use Rattle.tree.specs.Levels.{fetchedAt}
-use Rattle.tree.specs.Times.{nodeTime}
+use Rattle.tree.specs.Times.{timesIn}
 use Rattle.tree.specs.Walks.{found, keptFrom, targetFrom}
 use Rattle.tree.specs.Remembering.{entries, keptIn, positionBy, answerBy, Keeps}
 use Rattle.tree.proofs.Steps.{root-depth, stands-root}
@@ -30,7 +29,7 @@ position-of-requires c κs =
     let a = c .before .before .before .before .before .before .args in
     let r = c .before .before .before .go-down .result in
     let nodes = c .before .ending .given .0 .0 in
-    let left = remembers-opened (a .levels) (a .s .now) r nodes (keptFrom (a .levels .pins) (nodeTime (fetchedAt (a .levels) (a .s .now))) (a .target) (keptIn (c .before .before .before .before .nothing-kept .result)) 1) (c .before .ending .given .1) (c .before .before .before .go-down .ensures .1) in
+    let left = remembers-opened (a .levels) (a .s .now) r nodes (keptFrom (a .levels .pins) (timesIn (a .levels) (a .s .now)) (a .target) (keptIn (c .before .before .before .before .nothing-kept .result)) 1) (c .before .ending .given .1) (c .before .before .before .go-down .ensures .1) in
     keeps-few (a .levels) (a .s .now) (r .kept) (c .before .before .before .before .before .before .pre) (left .1 .keeps)
 
 enum-known-ending-2 : tie.Need-enum-known-ending-2
@@ -43,7 +42,7 @@ returns c =
     let r = c .before .before .before .before .go-down .result in
     let n = a .levels .pins in
     ap (λ (p : ℕ). found p (c .before .before .ending .given .0 .0)) (c .position-of .ensures) ∙ sym (ap (answerBy (positionBy (r .kept) n)) (c .before .before .ending .given .1)) ∙ c .before .before .before .before .go-down .ensures .0
-    ∙ ap (λ (w : Remembered). targetFrom n (nodeTime (fetchedAt (a .levels) (a .s .now))) (a .target) (keptIn w) 0 1) (c .before .before .before .before .before .nothing-kept .ensures)
+    ∙ ap (λ (w : Remembered). targetFrom n (timesIn (a .levels) (a .s .now)) (a .target) (keptIn w) 0 1) (c .before .before .before .before .before .nothing-kept .ensures)
 
 returns-2 : tie.Need-returns-2
 unfolding entries
@@ -52,7 +51,7 @@ returns-2 c =
     let r = c .before .before .before .go-down .result in
     let n = a .levels .pins in
     sym (ap (answerBy (positionBy (r .kept) n)) (c .before .ending2 .given .1)) ∙ c .before .before .before .go-down .ensures .0
-    ∙ ap (λ (w : Remembered). targetFrom n (nodeTime (fetchedAt (a .levels) (a .s .now))) (a .target) (keptIn w) 0 1) (c .before .before .before .before .nothing-kept .ensures)
+    ∙ ap (λ (w : Remembered). targetFrom n (timesIn (a .levels) (a .s .now)) (a .target) (keptIn w) 0 1) (c .before .before .before .before .nothing-kept .ensures)
 
 pub search-spec : {M : Type 1} → statement M
 search-spec =
