@@ -17,14 +17,14 @@ use Rattle.tree.specs.Lists.{ordered}
 use Rattle.tree.specs.Listing.{Stop, nowhere, at, accesses, stopFrom, endOf}
 use Rattle.tree.specs.Buffers.{replaced}
 use Rattle.tree.proofs.Buffers.{front-of}
-use Rattle.tree.proofs.Promises.{height-least, stored-levels, lists}
+use Rattle.tree.proofs.Promises.{height-least, stored-levels, listing-finds}
 use Rattle.strip.specs.Lists.{firstLower}
 use Rattle.strip.specs.Outcomes.{Outcome, gives, refuses, test, verdict}
 use Rattle.strip.specs.Layout.{maxBytes}
 use Rattle.strip.specs.Image.{image}
-use Rattle.strip.specs.Calls.{written, listIn, imageTest, checkIn, repeatFrom}
-use Rattle.strip.specs.Written.{packedInto}
+use Rattle.strip.specs.Calls.{roomFor, written, listIn, imageTest, checkIn, repeatFrom}
 use Rattle.strip.specs.Read.{fallsTest, unpackIn, gapOr}
+use Rattle.strip.proofs.Layouts.{height-fits}
 use Rattle.strip.proofs.Plans.{strip-small}
 use Rattle.strip.proofs.Readings.{ending, repeat-lists, check-all, check-stopped}
 use Rattle.strip.proofs.Verdicts.{gives-same, gives-refuses}
@@ -39,7 +39,7 @@ module _ (levels : Levels) (s : List ℕ) where
   -- as many as there are positions before the one where listing ends
   pub list-count : (stop : Stop) → stop ≡ stopFrom (accesses levels s) (levels .pins) 0 → length (listIn s levels) ≡ endOf stop (levels .pins)
   unfolding listIn
-  list-count stop e = lists .count (accesses levels s) (levels .pins) ∙ ap (λ (z : Stop). endOf z (levels .pins)) (sym e)
+  list-count stop e = listing-finds .count (accesses levels s) (levels .pins) ∙ ap (λ (z : Stop). endOf z (levels .pins)) (sym e)
 
   -- they stand at the front of the buffer that was lent
   pub record Front (n : ℕ) (now : List ℕ) : Type 0 where
@@ -55,6 +55,10 @@ module _ (levels : Levels) (s : List ℕ) where
         count = rw is (sym l);
         is = is;
       }
+
+  pub listed-front : {stop : Stop} (out : List ℕ) {now : List ℕ} → stop ≡ stopFrom (accesses levels s) (levels .pins) 0 → now ≡ replaced out 0 (listIn s levels)
+      → Front (endOf stop (levels .pins)) now
+  listed-front {stop} out {now} e is = list-front (endOf stop (levels .pins)) out now (list-count stop e) is
 
 -- ---- the answer
 
@@ -114,10 +118,10 @@ module _ (s : List ℕ) (levels : Levels) where
 
     -- the list is put where there is room for it
     pub unpack-listed : (n : ℕ) (xs : List ℕ) → gives n ≡ checkIn s levels → xs ≡ listIn s levels → (answer : Outcome ℕ) (now : List ℕ)
-        → answer ≡ packedInto (length out) xs → now ≡ written (packedInto (length out) xs) xs out → Unpacks answer now
+        → answer ≡ roomFor (length out) (length xs) → now ≡ written (roomFor (length out) (length xs)) xs out → Unpacks answer now
     unpack-listed n xs e x answer now a w =
         let l : length xs ≡ n = ap length x ∙ accepted-count n e in
-        let p : packedInto (length out) xs ≡ unpackIn s (length out) levels = rw (← e, l) in
+        let p : roomFor (length out) (length xs) ≡ unpackIn s (length out) levels = rw (← e, l) in
         (a ∙ p, w ∙ ap (λ (o : Outcome ℕ). written o xs out) p ∙ ap (λ (ys : List ℕ). written (unpackIn s (length out) levels) ys out) x)
 
 -- ---- the image
@@ -126,20 +130,20 @@ module _ (s : List ℕ) (levels : Levels) where
 module _ (xs : List ℕ) (few : length xs < 2 ^ 16) (within : Within 32 xs) (room : ℕ) (enough : room ≡ maxBytes) where
   image-fits : length (image xs) ≤ room
   image-fits =
-      omega (arith, height-least .least (length xs) 16 (omega arith), rw (stored-levels .count xs) at (strip-small (storedValues xs) (stored-levels .within 32 xs within)))
+      omega (arith, height-fits (length xs) (omega arith), rw (stored-levels .count xs) at (strip-small (storedValues xs) (stored-levels .within 32 xs within)))
 
-  packs-whole : packedInto room (image xs) ≡ gives (length (image xs))
+  packs-whole : roomFor room (length (image xs)) ≡ gives (length (image xs))
   unfolding verdict
   packs-whole = rw (le-ltb room (length (image xs)) image-fits)
 
-  pub image-packs : (r q : ℕ) → refuses r q ≡ packedInto room (image xs) → ⊥
+  pub image-packs : (r q : ℕ) → refuses r q ≡ roomFor room (length (image xs)) → ⊥
   image-packs r q e = gives-refuses (sym (e ∙ packs-whole))
 
-  pub image-length : (n : ℕ) → gives n ≡ packedInto room (image xs) → n ≡ length (image xs)
+  pub image-length : (n : ℕ) → gives n ≡ roomFor room (length (image xs)) → n ≡ length (image xs)
   image-length n e = gives-same (e ∙ packs-whole)
 
   -- it stands at the front of the buffer that was lent
-  pub image-front : (n : ℕ) (out now : List ℕ) → gives n ≡ packedInto room (image xs) → now ≡ written (packedInto room (image xs)) (image xs) out
+  pub image-front : (n : ℕ) (out now : List ℕ) → gives n ≡ roomFor room (length (image xs)) → now ≡ written (roomFor room (length (image xs))) (image xs) out
       → (n ≤ length now) × (take n now ≡ image xs)
   image-front n out now e w =
       let l = image-length n e in

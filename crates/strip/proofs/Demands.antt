@@ -1,35 +1,42 @@
 -- The demands of specs/Demands.
 use mathlib.Core.Path.{_≡_, refl, sym, ap, subst, _∙_}
 use mathlib.Core.Logic.{_↔_}
-use mathlib.Core.Bool.{Bool, true, false, not, true≢false}
+use mathlib.Core.Bool.{true, not, cond}
 use mathlib.Core.List.{List, [], _∷_, _++_, map, append-nil}
+use mathlib.Core.Option.{Option, none, some}
 use Prim.Native.Nat.{ℕ, zero, suc, _+_, _*_, _/_, _%_, _≤_, _<_}
 use native.Mathlib.Nat.{le-refl}
+use native.Mathlib.Decide.{decLt}
 use native.Mathlib.Omega.{arith}
 use lib.Dec.{T, eqb, ltb}
 use lib.ListN.{length, take, drop, getD, length-map, drop-of-length-le}
 use lib.Seq.{take-at}
-use borrow.Author.Tests.{eqb-false, ltb-false, not-false, ne-eqb, le-ltb}
+use denote.Ref.{now}
+use borrow.Author.Tests.{eqb-false, ltb-false, not-false, ne-eqb, lt-ltb, le-ltb}
+use lib.Ieee.Bits.{is-true}
+use Rattle.codes.specs.Lists.{atFront}
 use Rattle.codes.specs.Codes.{Within}
 use Rattle.tree.specs.declared.nodes.Levels.{Levels}
 use Rattle.tree.specs.Lists.{ordered, smaller}
 use Rattle.tree.specs.Stored.{storedValues}
-use Rattle.tree.specs.Walks.{Answer, found, stopped, path}
+use Rattle.tree.specs.Walks.{Answer, found, stopped, toward, path}
 use Rattle.tree.specs.Sweeps.{Sweep, different}
 use Rattle.tree.specs.Listing.{nowhere}
-use Rattle.tree.proofs.Promises.{stored-levels, lists, sweep-finds}
+use Rattle.tree.specs.Promises.{Held}
+use Rattle.tree.proofs.Promises.{stored-levels, listing-finds, sweep-finds}
 use Rattle.strip.specs.declared.strip.Checked.{Checked}
 use Rattle.strip.specs.declared.strip.Checked.the-variants.{Pins, Refused}
 use Rattle.strip.specs.declared.strip.Swept.{Swept}
 use Rattle.strip.specs.declared.strip.Swept.the-variants as sweeping
+use Rattle.strip.specs.declared.walker.Walker.{Walker}
 use Rattle.strip.specs.Outcomes.{Outcome, gives, refuses, verdict, after}
 use Rattle.strip.specs.Layout.{maxPins, pinsOf, laidOut}
-use Rattle.strip.specs.Image.{stripOf, image}
+use Rattle.strip.specs.Image.{Packable, stripOf, image}
 use Rattle.strip.specs.Opening.{levelsIn, opening}
-use Rattle.strip.specs.Calls.{packAnswer, atFront, written, packOutput, searchOf, sweepOf, sweepOutput, swept, listIn, checkIn, checkOf, checked, plainList, unpackOf, unpackOutput}
-use Rattle.strip.specs.Promises.{Packable, Opens}
-use Rattle.strip.specs.Demands.{PacksTo, UnpacksTo, FewestBits, Accepted, CheckAccepts, CodeAccepts, Demand2, SweepsAs, CodeSweepsAs, Demand3}
-use Rattle.strip.proofs.Same.{is-true, same-lists, same-itself}
+use Rattle.strip.specs.Calls.{packOf, written, packOutput, searchOf, sweepOf, sweepOutput, swept, listIn, checkIn, checkOf, checked, plainList, unpackOf, unpackOutput, movedBy, stepOf, nextOf, walkerStep, walkerAfter, walkerAfterSteps}
+use Rattle.strip.specs.Promises.{Opens}
+use Rattle.strip.specs.Demands.{PacksTo, UnpacksTo, Accepted, CheckAccepts, CodeAccepts, Demand2, SweepsAs, CodeSweepsAs, Demand3, WalkerLists}
+use Rattle.strip.proofs.Same.{same-lists, same-itself}
 use Rattle.strip.proofs.Verdicts.{gives-refuses, verdict-gives, verdict-passed}
 use Rattle.strip.proofs.Sweeps.{targets-follow}
 use Rattle.strip.proofs.Readings.{check-all}
@@ -39,7 +46,7 @@ use Rattle.strip.proofs.Promises.{image-opens, round-trip}
 -- ---- from a list to its strip
 
 packs : (xs : List ℕ) → Packable xs → (out : List ℕ) → length (image xs) ≤ length out → PacksTo xs (image xs) out
-unfolding packAnswer packOutput verdict
+unfolding packOf packOutput verdict
 packs xs p out room =
     rw (ne-eqb (length xs) 0 (λ e. omega (arith, p .some)), le-ltb maxPins (length xs) (p .few), is-true (ordered xs) (p .in-order), le-ltb (length out) (length (image xs)) room)
     (refl, refl)
@@ -52,23 +59,23 @@ module _ (xs : List ℕ) (p : Packable xs) where
   opens : Opens xs levels
   opens = image-opens xs p .1
 
+  held : Held levels (image xs) xs
+  held = record { in-order = p .in-order; times = p .times; stores = opens .bits .stores }
+
   list-back : listIn (image xs) levels ≡ xs
   unfolding listIn
-  list-back = lists .times levels (image xs) xs (opens .held)
+  list-back = listing-finds .times levels (image xs) xs held
 
   plain-back : plainList (image xs) ≡ xs
   unfolding plainList
-  plain-back = rw (opens .opened) list-back
+  plain-back = rw (opens .bits .opened) list-back
 
   check-back : checkOf (image xs) ≡ gives (length xs)
   unfolding checkOf verdict
   check-back =
-      let stop = lists .stop levels (image xs) xs (opens .held) in
+      let stop = listing-finds .stop levels (image xs) xs held in
       let o : ordered xs ≡ true = is-true (ordered xs) (p .in-order) in
-      rw (opens .opened) (check-all (image xs) levels stop ∙ rw (list-back, o, same-itself (image xs)) (ap gives (opens .held .stores .pins-are)))
-
-  fewest-bits : FewestBits xs (image xs) levels
-  fewest-bits = record { opened = opens .opened; stores = opens .held .stores; fewest = opens .fewest }
+      rw (opens .bits .opened) (check-all (image xs) levels stop ∙ rw (list-back, o, same-itself (image xs)) (ap gives (held .stores .pins-are)))
 
   unpacks-back : (out : List ℕ) → length xs ≤ length out → UnpacksTo (image xs) xs out
   unfolding unpackOf unpackOutput verdict
@@ -79,13 +86,13 @@ module _ (xs : List ℕ) (p : Packable xs) where
       → sweepOf (image xs) ts room ≡ record { positions = map (λ t. smaller t xs) ts; answer = found 0 (different xs ts) }
   unfolding sweepOf
   sweep-back ts room e o =
-      rw (opens .opened) (targets-follow (image xs) ts room levels e (is-true (ordered ts) o) ∙ sweep-finds .answer levels (image xs) xs (opens .held) ts o)
+      rw (opens .bits .opened) (targets-follow (image xs) ts room levels e (is-true (ordered ts) o) ∙ sweep-finds .answer levels (image xs) xs held ts o)
 
 -- ---- from a strip to its list
 
 module _ (xs s out : List ℕ) (to : PacksTo xs s out) where
   length-is : length (image xs) ≡ length s
-  unfolding packAnswer
+  unfolding packOf
   length-is = verdict-gives _ (length (image xs)) (length s) (to .0)
 
   -- both stand at the front of the output
@@ -96,7 +103,7 @@ module _ (xs s out : List ℕ) (to : PacksTo xs s out) where
       sym (take-at s (drop (length s) out) (length s) refl) ∙ ap (take (length s)) (sym e) ∙ take-at (image xs) (drop (length (image xs)) out) (length s) length-is
 
   packable : Within 32 xs → Packable xs
-  unfolding packAnswer
+  unfolding packOf
   packable w =
       let a = verdict-passed (eqb (length xs) 0) _ _ _ _ _ (to .0) in
       let b = verdict-passed (ltb maxPins (length xs)) _ _ _ _ _ (a .1) in
@@ -122,9 +129,9 @@ module _ (s : List ℕ) (levels : Levels) (o : opening s ≡ gives levels) (n : 
   unfolding opening laidOut
   count = list-count levels s nowhere (accepts s levels n (sym e) .all) ∙ ap (λ (l : Levels). l .pins) (sym (verdict-gives _ (levelsIn s) levels o))
 
-  some : (pinsOf s ≡ 0 → ⊥)
+  has-pins : (pinsOf s ≡ 0 → ⊥)
   unfolding opening
-  some =
+  has-pins =
       let a = verdict-passed _ _ _ _ _ _ o in
       let b = verdict-passed _ _ _ _ _ _ (a .1) in
       let c = verdict-passed _ _ _ _ _ _ (b .1) in
@@ -140,9 +147,9 @@ module _ (s : List ℕ) (levels : Levels) (o : opening s ≡ gives levels) (n : 
   read-packable : Packable xs
   unfolding listIn
   read-packable = record {
-    some = omega (arith, count, some);
+    some = omega (arith, count, has-pins);
     few = few;
-    times = lists .within levels s (levels .pins);
+    times = listing-finds .within levels s (levels .pins);
     in-order = rw (accepts s levels n (sym e) .in-order) tt;
   }
 
@@ -184,7 +191,7 @@ pub demand-2 : Demand2
 demand-2 = record {
   packs = packs;
   one-strip = image-is;
-  fewest-bits = λ xs p. (levels xs p, fewest-bits xs p);
+  fewest-bits = λ xs p. (levels xs p, opens xs p .bits);
   unpacks = unpacks-back;
   accepts = λ s. (accepted s, check-accepts s);
   pin-count = pin-count;
@@ -194,6 +201,12 @@ demand-2 = record {
 }
 
 -- ---- sweep
+
+found-same : {x y k m : ℕ} → found x k ≡ found y m → k ≡ m
+found-same e = cc
+
+found-stopped : {x k r c : ℕ} → found x k ≡ stopped r c → ⊥
+found-stopped e = let z : _≡_ {A = ℕ} 0 1 = cc in omega arith
 
 -- in range, whatever f gives at 0
 map-at : (f : ℕ → ℕ) (ts : List ℕ) (i : ℕ) → i < length ts → getD (map f ts) i 0 ≡ f (getD ts i 0)
@@ -236,22 +249,56 @@ module _ (s ts answers : List ℕ) (a : Accepted s) (o : T (ordered ts)) (e : le
   carries : sweepOf s ts (length answers) .answer ≡ found 0 (different (plainList s) ts)
   carries = ap (λ (r : Sweep). r .answer) swept-as
 
-  nodes-of : Answer → ℕ
-  nodes-of (found p k) = k
-  nodes-of (stopped r c) = 0
-
-  is-found : Answer → Bool
-  is-found (found p k) = true
-  is-found (stopped r c) = false
-
   code-sweeps : (r : Swept) (after : List ℕ) → swept r ≡ sweepOf s ts (length answers) .answer → after ≡ sweepOutput s ts answers → CodeSweepsAs s ts r after
-  unfolding nodes-of is-found
   code-sweeps (sweeping.Nodes k) after h q =
-      subst (SweepsAs s ts k) (sym q) (subst (λ (m : ℕ). SweepsAs s ts m (sweepOutput s ts answers)) (sym (ap nodes-of (h ∙ carries))) sweeps)
-  code-sweeps (sweeping.Refused r) after h q = absurd (true≢false (ap is-found (sym (h ∙ carries))))
+      subst (SweepsAs s ts k) (sym q) (subst (λ (m : ℕ). SweepsAs s ts m (sweepOutput s ts answers)) (sym (found-same (h ∙ carries))) sweeps)
+  code-sweeps (sweeping.Refused r) after h q = absurd (found-stopped (sym (h ∙ carries)))
 
 pub demand-3 : Demand3
 demand-3 = record {
   sweeps = λ s ts answers a o e. (different (plainList s) ts, carries s ts answers a o e, sweeps s ts answers a o e);
   code-sweeps = code-sweeps;
+}
+
+-- ---- the pin walker
+
+step-of : (s : List ℕ) → Accepted s → (i : ℕ)
+    → stepOf s i ≡ cond (ltb i (length (plainList s))) (some (found (getD (plainList s) i 0) (length (toward (length (plainList s)) i)))) none
+step-of s (xs, w, (out, to)) i =
+    let one = one-list s xs out w to in
+    ap (λ (l : List ℕ). stepOf l i) (image-is xs s out to) ∙ round-trip xs (one .0) .step i
+    ∙ ap (λ (l : List ℕ). cond (ltb i (length l)) (some (found (getD l i 0) (length (toward (length l) i)))) none) (one .1)
+
+module _ (w : Walker) (start : w .next ≡ 0) (a : Accepted (now (w .strip))) where
+  abbrev times : List ℕ
+  times = plainList (now (w .strip))
+
+  step-time : (k : ℕ) → k < length times → stepOf (now (w .strip)) k ≡ some (found (getD times k 0) (length (toward (length times) k)))
+  step-time k l = step-of (now (w .strip)) a k ∙ rw (lt-ltb k (length times) l)
+
+  step-end : (k : ℕ) → length times ≤ k → stepOf (now (w .strip)) k ≡ none
+  step-end k l = step-of (now (w .strip)) a k ∙ rw (le-ltb k (length times) l)
+
+  abbrev at : ℕ → Walker
+  at k = record { strip = w .strip; next = k }
+
+  -- after as many steps as there are pins, or fewer, the walker has moved on at each
+  within : (k : ℕ) → k ≤ length times → walkerAfterSteps k w ≡ at k
+  unfolding walkerAfterSteps nextOf
+  within zero l = λ i. at (start i)
+  within (suc k) l = ap walkerAfter (within k (omega arith)) ∙ ap (λ (z : Option Answer). at (movedBy z k)) (step-time k l)
+
+  -- and after more it stands at the end
+  beyond : (k : ℕ) → length times ≤ k → walkerAfterSteps k w ≡ at (length times)
+  unfolding walkerAfterSteps nextOf
+  beyond zero l = within zero (omega arith) ∙ ap at (omega arith)
+  beyond (suc k) l = elim (decLt k (length times)) [
+    | yes h ↦ within (suc k) h ∙ ap at (omega arith)
+    | no h ↦ ap walkerAfter (beyond k (omega arith)) ∙ ap (λ (z : Option Answer). at (movedBy z (length times))) (step-end (length times) (le-refl (length times)))
+  ]
+
+pub walker-lists : WalkerLists
+walker-lists = record {
+  times = λ w start a k l. ap walkerStep (within w start a k (omega arith)) ∙ step-time w start a k l;
+  ends = λ w start a k l. ap walkerStep (beyond w start a k l) ∙ step-end w start a (length (plainList (now (w .strip)))) (le-refl (length (plainList (now (w .strip)))));
 }

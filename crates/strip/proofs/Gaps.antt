@@ -7,7 +7,7 @@ use Prim.Native.Nat.{ℕ, suc, _+_, _-_, _≤_, _<_}
 use native.Mathlib.Nat.{add-zero}
 use native.Mathlib.Decide.{decLt}
 use native.Mathlib.Omega.{arith}
-use lib.Dec.{T, leb, leb·suc-suc}
+use lib.Dec.{leb, leb·suc-suc}
 use lib.ListN.{length, drop, getD}
 use lib.Seq.{drop-cons}
 use borrow.Author.Tests.{lt-ltb, le-ltb, le-leb, lt-leb}
@@ -94,10 +94,3 @@ not-ordered xs h = ordered-lower xs ∙ lt-leb (length xs) (firstLower xs) h
 
 pub is-ordered : (xs : List ℕ) → length xs ≤ firstLower xs → ordered xs ≡ true
 is-ordered xs h = ordered-lower xs ∙ le-leb (length xs) (firstLower xs) h
-
-pub ordered-rest : (x y : ℕ) (ys : List ℕ) → T (ordered (x ∷ y ∷ ys)) → (x ≤ y) × T (ordered (y ∷ ys))
-unfolding ordered
-ordered-rest x y ys o = elim (decLt y x) [
-  | yes l ↦ absurd (rw (lt-leb x y l) at o)
-  | no l ↦ (omega arith, rw (le-leb x y (omega arith)) at o)
-]

@@ -15,8 +15,8 @@ use Rattle.tree.proofs.Promises.{height-least}
 use Rattle.strip.specs.Layout.{maxHeight, partsStart, noLevels, endAfter, filled, entered, laidOut}
 
 -- a pin count of two bytes has a height of at most 16
-pub tall : (n : ℕ) → n < 2 ^ 16 → height n ≤ maxHeight
-tall n h = height-least .least n 16 (omega arith)
+pub height-fits : (n : ℕ) → n < 2 ^ 16 → height n ≤ maxHeight
+height-fits n h = height-least .least n 16 (omega arith)
 
 length-filled : (count : ℕ) (f : ℕ → ℕ) (d : ℕ) → length (filled count f d) ≡ count
 unfolding filled
@@ -95,12 +95,12 @@ module _ (n : ℕ) (code len : ℕ → ℕ) where
   module _ (few : n < 2 ^ 16) where
     pub laid-end : (d : ℕ) → d ≤ height n → getD (laidOut n code len .ends) d 0 ≡ endAfter (partsStart n) len d
     unfolding laidOut
-    laid-end d h = getD-filled (maxHeight + 1) (endAfter (partsStart n) len) (suc (height n)) d (omega arith) (omega (arith, tall n few))
+    laid-end d h = getD-filled (maxHeight + 1) (endAfter (partsStart n) len) (suc (height n)) d (omega arith) (omega (arith, height-fits n few))
 
     pub laid-at : (d : ℕ) → d < height n → At (laidOut n code len) d (code d) (endAfter (partsStart n) len d) (len d)
     unfolding laidOut
     laid-at d h = record {
-      code-is = getD-filled maxHeight code (height n) d h (tall n few);
+      code-is = getD-filled maxHeight code (height n) d h (height-fits n few);
       starts = laid-end d (omega arith);
       ends-at = rw (add-one d) (laid-end (suc d) (omega arith) ∙ end-next (partsStart n) len d);
     }
@@ -108,7 +108,7 @@ module _ (n : ℕ) (code len : ℕ → ℕ) where
     -- levels of lengths below 2 ^ 32 that end with the bytes fit them
     pub laid-fits : (s : List ℕ) → ((d : ℕ) → d < height n → len d < 2 ^ 32) → endAfter (partsStart n) len (height n) ≡ length s → Fits (laidOut n code len) s
     laid-fits s short e = record {
-      height-fits = rw laid-pins (tall n few);
+      height-fits = rw laid-pins (height-fits n few);
       in-order = λ d h. let k = laid-at d (rw laid-pins at h) in omega (arith, k .starts, k .ends-at);
       inside = λ d h. let m = rw laid-pins at h in let k = laid-at d m in omega (arith, k .ends-at, end-next (partsStart n) len d, end-mono (partsStart n) len (suc d) (height n) m, e);
       short = λ d h. let m = rw laid-pins at h in let k = laid-at d m in omega (arith, k .starts, k .ends-at, short d m);

@@ -1,5 +1,6 @@
 -- Each entry of the table of marked cases holds, since the test of them all computes to true.
 use mathlib.Core.Path.{_≡_, refl}
+use mathlib.Core.Bool.{Bool}
 use mathlib.Core.List.{List, [], _∷_}
 use mathlib.Core.Option.{Option, none, some}
 use Prim.Native.Nat.{ℕ, zero, suc, _<_}
@@ -7,66 +8,67 @@ use native.Mathlib.Omega.{arith}
 use lib.Dec.{T, eqb, eqb→eq}
 use lib.ListN.{length, getD, replicate, length-replicate}
 use borrow.Author.Tests.{lt-ltb, ne-eqb}
+use mir.Facts.{and-yes}
 use Rattle.codes.specs.Lists.{same}
 use Rattle.tree.specs.Shape.{height, rootPlace}
 use Rattle.tree.specs.Walks.{Answer, found, stopped}
 use Rattle.strip.specs.Outcomes.{Outcome, gives, refuses, verdict}
 use Rattle.strip.specs.Layout.{maxPins}
-use Rattle.strip.specs.Calls.{packAnswer, packOutput, accessOf, searchOf, upToOf, sweepOf, sweepOutput, checkOf, unpackOf, unpackOutput, repeatOf}
-use Rattle.strip.specs.Marked.{Case, packs, accesses, searches, counts, sweeps, checks, unpacks, repeats, root, tall, Says, given, is, told, passes, all, marked, marked-pass}
-use Rattle.strip.proofs.Same.{both, same-lists}
+use Rattle.strip.specs.Calls.{packOf, packOutput, accessOf, searchOf, upToOf, sweepOf, sweepOutput, checkOf, unpackOf, unpackOutput, repeatOf, stepOf, nextOf}
+use Rattle.strip.specs.Marked.{Case, packs, accesses, searches, upTos, sweeps, checks, unpacks, repeats, steps, root, tall, Says, sameOption, sameOutcome, sameAnswer, passes, all, marked, marked-pass}
+use Rattle.strip.proofs.Same.{same-lists}
 
-same-outcomes : (a b : Outcome ℕ) → T (given a b) → a ≡ b
-same-outcomes (gives x) (gives y) h = rw (eqb→eq x y h)
-same-outcomes (gives x) (refuses r c) h = absurd h
-same-outcomes (refuses r c) (gives y) h = absurd h
-same-outcomes (refuses r c) (refuses q d) h = let b = both (eqb r q) (eqb c d) h in rw (eqb→eq r q (b .0), eqb→eq c d (b .1))
+module _ {A : Type 0} (equal : A → A → Bool) (same-values : (a b : A) → T (equal a b) → a ≡ b) where
+  same-options : (x y : Option A) → T (sameOption equal x y) → x ≡ y
+  same-options none none h = refl
+  same-options none (some b) h = absurd h
+  same-options (some a) none h = absurd h
+  same-options (some a) (some b) h = rw (same-values a b h)
 
-same-answers : (a b : Answer) → T (is a b) → a ≡ b
-same-answers (found x k) (found y l) h = let b = both (eqb x y) (eqb k l) h in rw (eqb→eq x y (b .0), eqb→eq k l (b .1))
-same-answers (found x k) (stopped r c) h = absurd h
+  same-outcomes : (x y : Outcome A) → T (sameOutcome equal x y) → x ≡ y
+  same-outcomes (gives a) (gives b) h = rw (same-values a b h)
+  same-outcomes (gives a) (refuses q d) h = absurd h
+  same-outcomes (refuses r c) (gives b) h = absurd h
+  same-outcomes (refuses r c) (refuses q d) h = let b = and-yes (eqb r q) (eqb c d) h in rw (eqb→eq r q (b .0), eqb→eq c d (b .1))
+
+same-answers : (x y : Answer) → T (sameAnswer x y) → x ≡ y
+same-answers (found x k) (found y l) h = let b = and-yes (eqb x y) (eqb k l) h in rw (eqb→eq x y (b .0), eqb→eq k l (b .1))
+same-answers (found x k) (stopped q d) h = absurd h
 same-answers (stopped r c) (found y l) h = absurd h
-same-answers (stopped r c) (stopped q d) h = let b = both (eqb r q) (eqb c d) h in rw (eqb→eq r q (b .0), eqb→eq c d (b .1))
-
-same-tellings : (a b : Outcome (Option ℕ)) → T (told a b) → a ≡ b
-same-tellings (gives none) (gives none) h = refl
-same-tellings (gives none) (gives (some j)) h = absurd h
-same-tellings (gives none) (refuses q d) h = absurd h
-same-tellings (gives (some i)) (gives none) h = absurd h
-same-tellings (gives (some i)) (gives (some j)) h = rw (eqb→eq i j h)
-same-tellings (gives (some i)) (refuses q d) h = absurd h
-same-tellings (refuses r c) (gives y) h = absurd h
-same-tellings (refuses r c) (refuses q d) h = let b = both (eqb r q) (eqb c d) h in rw (eqb→eq r q (b .0), eqb→eq c d (b .1))
+same-answers (stopped r c) (stopped q d) h = let b = and-yes (eqb r q) (eqb c d) h in rw (eqb→eq r q (b .0), eqb→eq c d (b .1))
 
 says : (c : Case) → T (passes c) → Says c
 says (packs xs out r after) h =
-    let b = both (given (packAnswer xs (length out)) r) (same (packOutput xs out) after) h in
-    (same-outcomes (packAnswer xs (length out)) r (b .0), same-lists (packOutput xs out) after (b .1))
+    let b = and-yes (sameOutcome eqb (packOf xs (length out)) r) (same (packOutput xs out) after) h in
+    (same-outcomes eqb eqb→eq (packOf xs (length out)) r (b .0), same-lists (packOutput xs out) after (b .1))
 says (accesses s i r) h = same-answers (accessOf s i) r h
 says (searches s t r) h = same-answers (searchOf s t) r h
-says (counts s t r) h = same-answers (upToOf s t) r h
+says (upTos s t r) h = same-answers (upToOf s t) r h
 says (sweeps s ts out r after) h =
-    let b = both (is (sweepOf s ts (length out) .answer) r) (same (sweepOutput s ts out) after) h in
+    let b = and-yes (sameAnswer (sweepOf s ts (length out) .answer) r) (same (sweepOutput s ts out) after) h in
     (same-answers (sweepOf s ts (length out) .answer) r (b .0), same-lists (sweepOutput s ts out) after (b .1))
-says (checks s r) h = same-outcomes (checkOf s) r h
+says (checks s r) h = same-outcomes eqb eqb→eq (checkOf s) r h
 says (unpacks s out r after) h =
-    let b = both (given (unpackOf s (length out)) r) (same (unpackOutput s out) after) h in
-    (same-outcomes (unpackOf s (length out)) r (b .0), same-lists (unpackOutput s out) after (b .1))
-says (repeats s r x) h = same-tellings (repeatOf s r) x h
+    let b = and-yes (sameOutcome eqb (unpackOf s (length out)) r) (same (unpackOutput s out) after) h in
+    (same-outcomes eqb eqb→eq (unpackOf s (length out)) r (b .0), same-lists (unpackOutput s out) after (b .1))
+says (repeats s r x) h = same-outcomes (sameOption eqb) (same-options eqb eqb→eq) (repeatOf s r) x h
+says (steps s i x j) h =
+    let b = and-yes (sameOption sameAnswer (stepOf s i) x) (eqb (nextOf s i) j) h in
+    (same-options sameAnswer same-answers (stepOf s i) x (b .0), eqb→eq (nextOf s i) j (b .1))
 says (root n p) h = eqb→eq (rootPlace n) p h
 says (tall n k) h = eqb→eq (height n) k h
 
 each : (cs : List Case) → T (all cs) → (i : ℕ) → i < length cs → Says (getD cs i (root 1 1))
 each [] h i l = absurd (omega arith)
-each (c ∷ cs) h zero l = says c (both (passes c) (all cs) h .0)
-each (c ∷ cs) h (suc i) l = each cs (both (passes c) (all cs) h .1) i (omega arith)
+each (c ∷ cs) h zero l = says c (and-yes (passes c) (all cs) h .0)
+each (c ∷ cs) h (suc i) l = each cs (and-yes (passes c) (all cs) h .1) i (omega arith)
 
 pub marked-says : (i : ℕ) → i < length marked → Says (getD marked i (root 1 1))
 marked-says = each marked (rw marked-pass tt)
 
 -- the example of refusal 2: a list over 65,535
 too-many : (xs out : List ℕ) → maxPins < length xs → Says (packs xs out (refuses 2 0) out)
-unfolding packAnswer packOutput verdict
+unfolding packOf packOutput verdict
 too-many xs out h = rw (ne-eqb (length xs) 0 (λ e. omega arith), lt-ltb maxPins (length xs) h) (refl, refl)
 
 pub zeros-refused : (out : List ℕ) → Says (packs (replicate 65536 0) out (refuses 2 0) out)

@@ -1,4 +1,4 @@
--- Opening, test by test.
+-- Opening refuses by the first of 5, 6, 7, 1, 5, 8, 13 that holds, and otherwise finds the levels.
 use mathlib.Core.Path.{_≡_, sym, ap, _∙_}
 use mathlib.Core.Bool.{true, false, not}
 use mathlib.Core.List.{List, [], _∷_, _++_}

@@ -6,6 +6,7 @@ use native.Mathlib.Nat.{add-sub-cancel-left}
 use native.Mathlib.Numerals.{add-one}
 use native.Mathlib.Omega.{arith}
 use lib.ListN.{length, getD, length-append}
+use Rattle.codes.specs.Lists.{atFront}
 use Rattle.codes.specs.Codes.{kindOf, part, Within, Holds}
 use Rattle.codes.specs.Choice.{chosen}
 use Rattle.codes.proofs.Promises.{lengths, best-choice}
@@ -16,7 +17,6 @@ use Rattle.tree.proofs.Promises.{stored-levels}
 use Rattle.strip.specs.Layout.{header, partsStart, endAfter}
 use Rattle.strip.specs.Image.{valuesAt, codeFor, partFor, lengthFor, planned, entryFor, joined, stripOf}
 use Rattle.tree.specs.Buffers.{replaced}
-use Rattle.strip.specs.Calls.{atFront}
 use Rattle.strip.specs.Written.{entryIn}
 use Rattle.strip.proofs.Layouts.{At, laid-end, laid-at, laid-pins}
 use Rattle.tree.proofs.Buffers.{replaced-more, replaced-front}
@@ -48,10 +48,8 @@ module _ (values : List ℕ) (w : Within 32 values) (d : ℕ) where
   unfolding partFor codeFor
   length-chosen = rw (best-choice vs values-within .its-size) (lengths .rounded (chosen vs .code) vs)
 
-  -- at most 32 bits for each value
   pub size-small : chosen vs .size ≤ length vs * 32
-  unfolding kindOf
-  size-small = rw (lengths .fixed-size 32 32 vs refl) at (best-choice vs values-within .fewest 32 values-within)
+  size-small = best-choice vs values-within .at-most
 
 -- ---- where the levels of an image lie
 

@@ -15,11 +15,12 @@ use Rattle.tree.specs.declared.nodes.Levels.{Levels}
 use Rattle.tree.specs.Lists.{ordered}
 use Rattle.tree.specs.Walks.{Answer, found, stopped}
 use Rattle.tree.specs.Listing.{Stop, nowhere, at, accesses, timesFrom, stopFrom}
+use Rattle.tree.proofs.Orders.{ordered-head}
 use Rattle.strip.specs.Lists.{firstLower, gapFrom, firstGap}
 use Rattle.strip.specs.Outcomes.{Outcome, gives, refuses, Test, test, verdict, after}
 use Rattle.strip.specs.Calls.{timeOr0, refusalTest, fallsAt, positionsTests, listIn, imageTest, checkIn, nearAt, repeatFrom}
 use Rattle.strip.specs.Read.{firstNear, fallsTest, gapOr}
-use Rattle.strip.proofs.Gaps.{near-here, near-later, near-one, near-some, near-positive, near-at, lower-near, not-ordered, is-ordered, ordered-rest}
+use Rattle.strip.proofs.Gaps.{near-here, near-later, near-one, near-some, near-positive, near-at, lower-near, not-ordered, is-ordered}
 
 -- what ends a reading after its last position
 abbrev pub ending : Stop → Outcome (Option ℕ)
@@ -121,7 +122,7 @@ unfolding ordered firstNear gapFrom
 gaps-ordered r i [] o = refl
 gaps-ordered r i (x ∷ []) o = refl
 gaps-ordered r i (x ∷ y ∷ ys) o =
-    let b = ordered-rest x y ys o in
+    let b = ordered-head x y ys o in
     elim (decLt y (x + r)) [
       | yes n ↦ gaps-here r i x y ys (gives none) n ∙ rw (le-ltb y x (b .0), lt-ltb (y - x) r (omega (arith, b .0)))
       | no n ↦ gaps-later r i x y ys (gives none) (omega arith) ∙ rw (le-ltb (y - x) r (omega arith)) (gaps-ordered r (suc i) (y ∷ ys) (b .1))

@@ -1,27 +1,20 @@
--- Tests that hold, and the test whether two lists are the same.
+-- The test whether two lists are the same tells it.
 use mathlib.Core.Path.{_≡_, refl, ap, _∙_}
-use mathlib.Core.Bool.{Bool, true, false, _&&_}
+use mathlib.Core.Bool.{true, false, _&&_, and-false}
 use mathlib.Core.List.{List, [], _∷_}
 use Prim.Native.Nat.{ℕ, suc, _≤_, _<_}
 use lib.Dec.{T, eqb, eqb→eq}
 use lib.ListN.{length, drop, getD, drop-of-length-le}
 use lib.Seq.{drop-cons}
+use mir.Facts.{and-yes}
 use borrow.Author.Tests.{eq-eqb, ne-eqb}
 use Rattle.codes.specs.Lists.{same}
-
-pub is-true : (b : Bool) → T b → b ≡ true
-is-true true h = refl
-is-true false h = absurd h
-
-pub both : (a b : Bool) → T (a && b) → T a × T b
-both true b h = (tt, h)
-both false b h = absurd h
 
 pub same-lists : (xs ys : List ℕ) → T (same xs ys) → xs ≡ ys
 same-lists [] [] h = refl
 same-lists [] (y ∷ ys) h = absurd h
 same-lists (x ∷ xs) [] h = absurd h
-same-lists (x ∷ xs) (y ∷ ys) h = let b = both (eqb x y) (same xs ys) h in rw (eqb→eq x y (b .0), same-lists xs ys (b .1))
+same-lists (x ∷ xs) (y ∷ ys) h = let b = and-yes (eqb x y) (same xs ys) h in rw (eqb→eq x y (b .0), same-lists xs ys (b .1))
 
 pub same-itself : (xs : List ℕ) → same xs xs ≡ true
 same-itself [] = refl
@@ -31,11 +24,7 @@ pub same-length : (xs ys : List ℕ) → (length xs ≡ length ys → ⊥) → s
 same-length [] [] h = absurd (h refl)
 same-length [] (y ∷ ys) h = refl
 same-length (x ∷ xs) [] h = refl
-same-length (x ∷ xs) (y ∷ ys) h = rw (same-length xs ys (λ e. h (ap suc e))) (no-and (eqb x y))
-  where
-    no-and : (b : Bool) → (b && false) ≡ false
-    no-and true = refl
-    no-and false = refl
+same-length (x ∷ xs) (y ∷ ys) h = rw (same-length xs ys (λ e. h (ap suc e))) (and-false (eqb x y))
 
 -- from entry i on
 module _ (xs ys : List ℕ) (i : ℕ) (h : i < length xs) (k : i < length ys) where

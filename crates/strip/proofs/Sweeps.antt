@@ -1,4 +1,4 @@
--- The tests of a sweep, one after the other.
+-- A sweep is refused by 15, then 16, and is otherwise the tree's.
 use mathlib.Core.Path.{_≡_}
 use mathlib.Core.Bool.{true, false}
 use mathlib.Core.List.{List, []}
@@ -7,11 +7,12 @@ use lib.ListN.{length}
 use borrow.Author.Tests.{eq-eqb, ne-eqb}
 use Rattle.tree.specs.declared.nodes.Levels.{Levels}
 use Rattle.tree.specs.Lists.{ordered}
+use Rattle.tree.specs.Times.{timesIn}
 use Rattle.tree.specs.Walks.{stopped}
 use Rattle.tree.specs.Sweeps.{sweep}
 use Rattle.strip.specs.Lists.{firstLower}
 use Rattle.strip.specs.Outcomes.{verdict}
-use Rattle.strip.specs.Calls.{timesIn, sweepIn}
+use Rattle.strip.specs.Calls.{sweepIn}
 
 module _ (s ts : List ℕ) (room : ℕ) (levels : Levels) where
   pub lengths-differ : (room ≡ length ts → ⊥) → sweepIn s ts room levels ≡ record { positions = []; answer = stopped 15 0 }

@@ -1,9 +1,10 @@
--- Tests one after the other.
-use mathlib.Core.Path.{_≡_, refl, sym, ap}
-use mathlib.Core.Bool.{Bool, true, false, true≢false}
+-- The first test that holds decides; where none holds the value is given.
+use mathlib.Core.Path.{_≡_, refl, sym}
+use mathlib.Core.Bool.{Bool, true, false}
 use mathlib.Core.List.{List, [], _∷_, _++_}
 use Prim.Native.Nat.{ℕ}
-use Rattle.strip.specs.Outcomes.{Outcome, gives, refuses, Test, test, verdict, after}
+use native.Mathlib.Omega.{arith}
+use Rattle.strip.specs.Outcomes.{gives, refuses, Test, test, verdict, after}
 
 module _ {A : Type 0} (r c : ℕ) (ts : List Test) (a : A) where
   pub verdict-holds : (b : Bool) → b ≡ true → verdict (test b r c ∷ ts) a ≡ refuses r c
@@ -24,18 +25,10 @@ verdict-append (test false r c ∷ ts) us a b = verdict-append ts us a b
 -- ---- what is given is not refused, and is one thing
 
 pub gives-same : {A : Type 0} {a b : A} → gives a ≡ gives b → a ≡ b
-gives-same {A} {a} e = ap given e
-  where
-    given : Outcome A → A
-    given (gives x) = x
-    given (refuses r c) = a
+gives-same e = cc
 
 pub gives-refuses : {A : Type 0} {a : A} {r c : ℕ} → gives a ≡ refuses r c → ⊥
-gives-refuses {A} e = true≢false (ap given e)
-  where
-    given : Outcome A → Bool
-    given (gives x) = true
-    given (refuses r c) = false
+gives-refuses e = let z : _≡_ {A = ℕ} 0 1 = cc in omega arith
 
 -- what is given is what comes after the tests, of which none holds
 pub verdict-passed : {A : Type 0} (b : Bool) (r c : ℕ) (ts : List Test) (a x : A) → verdict (test b r c ∷ ts) a ≡ gives x → (b ≡ false) × (verdict ts a ≡ gives x)

@@ -4,12 +4,12 @@ use mathlib.Core.List.{List, [], _∷_, _++_}
 use mathlib.Core.Option.{Option, none, some}
 use Prim.Native.Nat.{ℕ, zero, suc, _-_, _^_}
 use lib.Dec.{eqb, ltb}
-use lib.ListN.{length, drop}
-use Rattle.codes.specs.Lists.{same}
+use lib.ListN.{length}
+use denote.Ref.{now}
+use Rattle.codes.specs.Lists.{same, atFront}
 use Rattle.tree.specs.declared.nodes.Levels.{Levels}
 use Rattle.tree.specs.Lists.{ordered}
-use Rattle.tree.specs.Levels.{fetchedAt}
-use Rattle.tree.specs.Times.{Time, nodeTime}
+use Rattle.tree.specs.Times.{timesIn}
 use Rattle.tree.specs.Walks.{Answer, found, stopped, searchAnswer}
 use Rattle.tree.specs.Sweeps.{Sweep, sweep}
 use Rattle.tree.specs.Listing.{accesses, timesFrom}
@@ -25,8 +25,11 @@ use Rattle.strip.specs.declared.strip.Checked.{Checked}
 use Rattle.strip.specs.declared.strip.Checked.the-variants as check
 use Rattle.strip.specs.declared.strip.Repeated.{Repeated}
 use Rattle.strip.specs.declared.strip.Repeated.the-variants as repeat
+use Rattle.strip.specs.declared.walker.Stepped.{Stepped}
+use Rattle.strip.specs.declared.walker.Stepped.the-variants as step
+use Rattle.strip.specs.declared.walker.Walker.{Walker}
 use Rattle.strip.specs.Lists.{firstLower}
-use Rattle.strip.specs.Outcomes.{Outcome, gives, refuses, Test, test, verdict, after, answerAfter}
+use Rattle.strip.specs.Outcomes.{Outcome, gives, refuses, Test, test, verdict, follow, after, answerAfter}
 use Rattle.strip.specs.Refusals.{refusalNumber, carried}
 use Rattle.strip.specs.Layout.{maxPins}
 use Rattle.strip.specs.Image.{image}
@@ -52,12 +55,8 @@ packTests xs room =
     ∷ []
 
 -- gives the image's length in bytes
-unfoldable pub packAnswer : List ℕ → ℕ → Outcome ℕ
-packAnswer xs room = verdict (packTests xs room) (length (image xs))
-
--- a buffer with these entries at the front, and later ones as they were
-abbrev pub atFront : List ℕ → List ℕ → List ℕ
-atFront entries out = entries ++ drop (length entries) out
+unfoldable pub packOf : List ℕ → ℕ → Outcome ℕ
+packOf xs room = verdict (packTests xs room) (length (image xs))
 
 -- the output with these entries at the front; a refusal writes nothing
 abbrev pub written : Outcome ℕ → List ℕ → List ℕ → List ℕ
@@ -66,7 +65,7 @@ written (refuses r c) entries out = out
 
 -- the output after pack: the image at the front, later bytes as they were
 unfoldable pub packOutput : List ℕ → List ℕ → List ℕ
-packOutput xs out = written (packAnswer xs (length out)) (image xs) out
+packOutput xs out = written (packOf xs (length out)) (image xs) out
 
 -- the answer of the code
 abbrev pub packed : Packed → Outcome ℕ
@@ -74,10 +73,6 @@ packed (packing.Length n) = gives n
 packed (packing.Refused r) = refuses (refusalNumber r) (carried r)
 
 -- ---- access, search, up-to
-
--- the time of each node, from the parts of the levels alone
-abbrev pub timesIn : Levels → List ℕ → ℕ → Time
-timesIn levels s = nodeTime (fetchedAt levels s)
 
 -- 14, then fetches from the root to rank i
 abbrev pub accessIn : List ℕ → ℕ → Levels → Answer
@@ -120,8 +115,7 @@ sweepTests ts room = test (not (eqb room (length ts))) 15 0 ∷ test (not (order
 
 -- a refusal before the first target writes nothing
 abbrev pub sweepAfter : {A : Type 0} → Outcome A → (A → Sweep) → Sweep
-sweepAfter (gives a) f = f a
-sweepAfter (refuses r c) f = record { positions = []; answer = stopped r c }
+sweepAfter o f = follow (λ r c. record { positions = []; answer = stopped r c }) o f
 
 -- 15, 16, then one target after the other, with so many answers lent
 abbrev pub sweepIn : List ℕ → List ℕ → ℕ → Levels → Sweep
@@ -185,14 +179,9 @@ checkIn s levels = verdict (checkTests s levels) (levels .pins)
 unfoldable pub checkOf : List ℕ → Outcome ℕ
 checkOf s = after (opening s) (checkIn s)
 
--- the list of a strip that opens
-abbrev pub listAfter : Outcome Levels → List ℕ → List ℕ
-listAfter (gives levels) s = listIn s levels
-listAfter (refuses r c) s = []
-
--- the plain list of an accepted strip
+-- the plain list of an accepted strip; of one that does not open nothing is read
 unfoldable pub plainList : List ℕ → List ℕ
-plainList s = listAfter (opening s) s
+plainList s = follow (λ r c. []) (opening s) (listIn s)
 
 -- check, then 4; gives n
 unfoldable pub unpackOf : List ℕ → ℕ → Outcome ℕ
@@ -230,3 +219,41 @@ abbrev pub repeated : Repeated → Outcome (Option ℕ)
 repeated (repeat.First i) = gives (some i)
 repeated repeat.None = gives none
 repeated (repeat.Refused r) = refuses (refusalNumber r) (carried r)
+
+-- ---- pin walker
+
+-- end, which is `none`, at n or beyond, otherwise access there
+abbrev pub stepIn : List ℕ → ℕ → Levels → Option Answer
+stepIn s i levels = cond (ltb i (levels .pins)) (some (accessIn s i levels)) none
+
+-- a step at next position i, which opens first
+unfoldable pub stepOf : List ℕ → ℕ → Option Answer
+stepOf s i = follow (λ r c. some (stopped r c)) (opening s) (stepIn s i)
+
+-- moves on by one; end and refusals do not move it
+abbrev pub movedBy : Option Answer → ℕ → ℕ
+movedBy (some (found t k)) i = suc i
+movedBy (some (stopped r c)) i = i
+movedBy none i = i
+
+-- the next position after that step
+unfoldable pub nextOf : List ℕ → ℕ → ℕ
+nextOf s i = movedBy (stepOf s i) i
+
+abbrev pub stepped : Stepped → Option Answer
+stepped (step.Time t k) = some (found t k)
+stepped step.End = none
+stepped (step.Refused r) = some (stopped (refusalNumber r) (carried r))
+
+-- what a step of a walker says
+abbrev pub walkerStep : Walker → Option Answer
+walkerStep w = stepOf (now (w .strip)) (w .next)
+
+-- the walker after it: the same strip, and the next position
+abbrev pub walkerAfter : Walker → Walker
+walkerAfter w = record { strip = w .strip; next = nextOf (now (w .strip)) (w .next) }
+
+-- after k steps
+unfoldable pub walkerAfterSteps : ℕ → Walker → Walker
+walkerAfterSteps zero w = w
+walkerAfterSteps (suc k) w = walkerAfter (walkerAfterSteps k w)

@@ -1,11 +1,14 @@
--- What the project demands of the calls together, each demand one statement. Demand 1 is the contracts of the calls themselves.
--- proofs/Demands proves demand 2 as `demand-2` and demand 3 as `demand-3`.
+-- What the project demands of the calls together, each demand one statement, and what a pin walker says of an accepted strip. Demand 1 is
+-- the contracts of the calls themselves. proofs/Demands proves demand 2 as `demand-2`, demand 3 as `demand-3` and the last as `walker-lists`.
 use mathlib.Core.Path.{_≡_}
 use mathlib.Core.Logic.{_↔_}
 use mathlib.Core.List.{List}
+use mathlib.Core.Option.{none, some}
 use Prim.Native.Nat.{ℕ, _*_, _≤_, _<_}
 use lib.Dec.{T}
 use lib.ListN.{length, getD}
+use denote.Ref.{now}
+use Rattle.codes.specs.Lists.{atFront}
 use Rattle.codes.specs.Codes.{kindOf, Within, Holds}
 use Rattle.codes.specs.Choice.{size}
 use Rattle.tree.specs.declared.nodes.Levels.{Levels}
@@ -13,32 +16,35 @@ use Rattle.tree.specs.Shape.{height}
 use Rattle.tree.specs.Lists.{ordered, smaller}
 use Rattle.tree.specs.Stored.{storedValues}
 use Rattle.tree.specs.Levels.{codeOf, levelValues, Stores}
-use Rattle.tree.specs.Walks.{found, path}
+use Rattle.tree.specs.Walks.{found, toward, path}
 use Rattle.tree.specs.Sweeps.{different}
 use Rattle.strip.specs.declared.strip.Checked.{Checked}
 use Rattle.strip.specs.declared.strip.Checked.the-variants.{Pins, Refused}
 use Rattle.strip.specs.declared.strip.Swept.{Swept}
 use Rattle.strip.specs.declared.strip.Swept.the-variants as sweeping
+use Rattle.strip.specs.declared.walker.Walker.{Walker}
 use Rattle.strip.specs.Outcomes.{gives}
-use Rattle.strip.specs.Image.{image}
+use Rattle.strip.specs.Image.{Packable, image}
 use Rattle.strip.specs.Opening.{opening}
-use Rattle.strip.specs.Calls.{packAnswer, atFront, packOutput, searchOf, sweepOf, sweepOutput, swept, checkOf, checked, plainList, unpackOf, unpackOutput}
-use Rattle.strip.specs.Promises.{Packable}
+use Rattle.strip.specs.Calls.{packOf, packOutput, searchOf, sweepOf, sweepOutput, swept, checkOf, checked, plainList, unpackOf, unpackOutput, walkerStep, walkerAfterSteps}
 
 -- A list packs to a strip in an output: pack gives the strip's length and leaves the strip at the front, with the later bytes as they were.
 abbrev pub PacksTo : List ℕ → List ℕ → List ℕ → Type 0
-PacksTo xs s out = (packAnswer xs (length out) ≡ gives (length s)) × (packOutput xs out ≡ atFront s out)
+PacksTo xs s out = (packOf xs (length out) ≡ gives (length s)) × (packOutput xs out ≡ atFront s out)
 
 -- a strip unpacks to a list, in the same way
 abbrev pub UnpacksTo : List ℕ → List ℕ → List ℕ → Type 0
 UnpacksTo s xs out = (unpackOf s (length out) ≡ gives (length xs)) × (unpackOutput s out ≡ atFront xs out)
 
--- Each level of a strip holds what the list's tree stores on it, in the code with fewest bits among all that can hold it.
+-- A strip opens, and each of its levels holds what the list's tree stores on it, in the code with fewest bits among all that can hold it.
+-- Among codes with as many bits it has the least number: a fixed code goes first, then the smaller b.
 pub record FewestBits (xs s : List ℕ) (levels : Levels) : Type 0 where
   pub opened : opening s ≡ gives levels
   pub stores : Stores levels s xs
   pub fewest : (l code : ℕ) → 1 ≤ l → l ≤ height (length xs) → Holds (kindOf code) (levelValues (storedValues xs) l)
       → size (codeOf levels l) (levelValues (storedValues xs) l) ≤ size code (levelValues (storedValues xs) l)
+  pub on-tie : (l code : ℕ) → 1 ≤ l → l ≤ height (length xs) → Holds (kindOf code) (levelValues (storedValues xs) l)
+      → size code (levelValues (storedValues xs) l) ≡ size (codeOf levels l) (levelValues (storedValues xs) l) → codeOf levels l ≤ code
 
 -- a strip is accepted when some list of 32-bit times packs to it, in some output
 abbrev pub Accepted : List ℕ → Type 0
@@ -98,3 +104,12 @@ pub record Demand3 : Type 0 where
   -- and so does the code: any answer, with the answers left, that meets the contract of `Strip::sweep`
   pub code-sweeps : (s ts answers : List ℕ) → Accepted s → T (ordered ts) → length answers ≡ length ts
       → (r : Swept) (after : List ℕ) → swept r ≡ sweepOf s ts (length answers) .answer → after ≡ sweepOutput s ts answers → CodeSweepsAs s ts r after
+
+-- ---- the pin walker
+
+-- From the start of an accepted strip, as many steps as there are pins say the plain list's times in order, each with the nodes that access
+-- opens. Every step after them says end.
+pub record WalkerLists : Type 0 where
+  pub times : (w : Walker) → w .next ≡ 0 → Accepted (now (w .strip)) → (k : ℕ) → k < length (plainList (now (w .strip)))
+      → walkerStep (walkerAfterSteps k w) ≡ some (found (getD (plainList (now (w .strip))) k 0) (length (toward (length (plainList (now (w .strip)))) k)))
+  pub ends : (w : Walker) → w .next ≡ 0 → Accepted (now (w .strip)) → (k : ℕ) → length (plainList (now (w .strip))) ≤ k → walkerStep (walkerAfterSteps k w) ≡ none

@@ -1,14 +1,23 @@
 -- The image of a list: the one strip that it packs to.
 use mathlib.Core.List.{List, [], _++_}
-use Prim.Native.Nat.{ℕ, zero, suc}
+use Prim.Native.Nat.{ℕ, zero, suc, _≤_}
+use lib.Dec.{T}
 use lib.ListN.{length}
-use Rattle.codes.specs.Codes.{part}
+use Rattle.codes.specs.Codes.{Within, part}
 use Rattle.codes.specs.Choice.{chosen}
 use Rattle.tree.specs.declared.nodes.Levels.{Levels}
 use Rattle.tree.specs.Shape.{height}
+use Rattle.tree.specs.Lists.{ordered}
 use Rattle.tree.specs.Stored.{storedValues}
 use Rattle.tree.specs.Levels.{levelValues}
-use Rattle.strip.specs.Layout.{header, entry, laidOut}
+use Rattle.strip.specs.Layout.{maxPins, header, entry, laidOut}
+
+-- the lists that pack: 1 to 65,535 times of 32 bits, none less than the one before
+pub record Packable (xs : List ℕ) : Type 0 where
+  pub some : 1 ≤ length xs
+  pub few : length xs ≤ maxPins
+  pub times : Within 32 xs
+  pub in-order : T (ordered xs)
 
 -- of the values in node order, those of the level below d others
 abbrev pub valuesAt : List ℕ → ℕ → List ℕ

@@ -25,7 +25,7 @@ use Rattle.strip.specs.Outcomes.{Outcome, gives, refuses, verdict}
 use Rattle.strip.specs.Layout.{maxPins, maxHeight, header, entry, endAfter, filled, laidOut}
 use Rattle.strip.specs.Image.{codeFor, partFor, joined, stripOf, image}
 use Rattle.strip.specs.Opening.{codeTests, opening}
-use Rattle.strip.specs.Calls.{packAnswer, packOutput, accessOf, searchOf, upToOf, sweepOf, sweepOutput, positionsTests, listIn, checkOf, plainList, unpackOf, unpackOutput, repeatFrom, repeatOf}
+use Rattle.strip.specs.Calls.{packOf, packOutput, accessOf, searchOf, upToOf, sweepOf, sweepOutput, positionsTests, listIn, checkOf, plainList, unpackOf, unpackOutput, repeatFrom, repeatOf, stepOf, nextOf}
 
 -- list A with its strip, and strip B, that of the list 0
 abbrev pub listA : List ℕ
@@ -64,13 +64,15 @@ pub data Case : Type 0 where
   packs : List ℕ → List ℕ → Outcome ℕ → List ℕ → Case
   accesses : List ℕ → ℕ → Answer → Case
   searches : List ℕ → ℕ → Answer → Case
-  counts : List ℕ → ℕ → Answer → Case
+  upTos : List ℕ → ℕ → Answer → Case
   -- the strip, the targets, the answers lent, the answer, and the answers after it
   sweeps : List ℕ → List ℕ → List ℕ → Answer → List ℕ → Case
   checks : List ℕ → Outcome ℕ → Case
   -- the strip, the output lent, the answer, and the output after it
   unpacks : List ℕ → List ℕ → Outcome ℕ → List ℕ → Case
   repeats : List ℕ → ℕ → Outcome (Option ℕ) → Case
+  -- the strip, a pin walker's next position, what its step says, and the next position after it
+  steps : List ℕ → ℕ → Option Answer → ℕ → Case
   root : ℕ → ℕ → Case
   tall : ℕ → ℕ → Case
 
@@ -83,7 +85,7 @@ marked =
     -- 6, and no targets
     ∷ sweeps a (250 ∷ 251 ∷ 1001 ∷ []) (replicate 3 7) (found 0 5) (1 ∷ 3 ∷ 5 ∷ []) ∷ sweeps a [] [] (found 0 0) []
     -- 8, and the greatest time
-    ∷ counts a 250 (found 3 3) ∷ counts a 4294967295 (found 5 0)
+    ∷ upTos a 250 (found 3 3) ∷ upTos a 4294967295 (found 5 0)
     -- 9
     ∷ root 1 1 ∷ root 2 2 ∷ root 3 2 ∷ root 4 3 ∷ root 5 4 ∷ root 6 4
     -- 10
@@ -92,6 +94,12 @@ marked =
     ∷ checks a (gives 5) ∷ checks b (gives 1) ∷ unpacks a (replicate 6 7) (gives 5) (listA ++ (7 ∷ []))
     -- list A by access
     ∷ accesses a 0 (found 100 3) ∷ accesses a 1 (found 250 2) ∷ accesses a 2 (found 250 3) ∷ accesses a 3 (found 400 1) ∷ accesses a 4 (found 1000 2)
+    -- list A by the steps of a pin walker, then end, there and beyond
+    ∷ steps a 0 (some (found 100 3)) 1 ∷ steps a 1 (some (found 250 2)) 2 ∷ steps a 2 (some (found 250 3)) 3 ∷ steps a 3 (some (found 400 1)) 4
+    ∷ steps a 4 (some (found 1000 2)) 5 ∷ steps a 5 none 5 ∷ steps a 4294967296 none 4294967296
+    -- a refused step does not move it; beyond the end only opening is refused, and it does not look for 11
+    ∷ steps (set b 7 1) 0 (some (stopped 9 1)) 0 ∷ steps low 0 (some (stopped 10 2)) 0 ∷ steps low 2 none 2 ∷ steps (take 3 b) 7 (some (stopped 5 0)) 7
+    ∷ steps fallen 3 (some (found 400 1)) 4
     -- the greatest pin count has the greatest height, and one more has not
     ∷ tall maxPins maxHeight ∷ tall (maxPins + 1) (maxHeight + 1)
     -- examples of refusals 1, 3 and 4
@@ -115,55 +123,53 @@ marked =
     -- opening's own 1 and second 5; two faults at once, of which the first tested is told; no refusal but opening's at the greatest time
     ∷ searches (set b 6 0) 0 (stopped 1 0) ∷ searches (set b 6 5) 0 (stopped 5 0)
     ∷ searches (set (set b 4 2) 6 0) 0 (stopped 7 0) ∷ searches (set b 7 33 ++ (0 ∷ [])) 0 (stopped 8 1)
-    ∷ counts (b ++ (0 ∷ [])) 4294967295 (stopped 13 0) ∷ counts low 4294967295 (found 2 0)
+    ∷ upTos (b ++ (0 ∷ [])) 4294967295 (stopped 13 0) ∷ upTos low 4294967295 (found 2 0)
     ∷ []
 
 -- what a case says; `marked-says` in proofs/Marked has it of each entry
 abbrev pub Says : Case → Type 0
-Says (packs xs out r after) = (packAnswer xs (length out) ≡ r) × (packOutput xs out ≡ after)
+Says (packs xs out r after) = (packOf xs (length out) ≡ r) × (packOutput xs out ≡ after)
 Says (accesses s i r) = accessOf s i ≡ r
 Says (searches s t r) = searchOf s t ≡ r
-Says (counts s t r) = upToOf s t ≡ r
+Says (upTos s t r) = upToOf s t ≡ r
 Says (sweeps s ts out r after) = (sweepOf s ts (length out) .answer ≡ r) × (sweepOutput s ts out ≡ after)
 Says (checks s r) = checkOf s ≡ r
 Says (unpacks s out r after) = (unpackOf s (length out) ≡ r) × (unpackOutput s out ≡ after)
 Says (repeats s r x) = repeatOf s r ≡ x
+Says (steps s i x j) = (stepOf s i ≡ x) × (nextOf s i ≡ j)
 Says (root n p) = rootPlace n ≡ p
 Says (tall n h) = height n ≡ h
 
 -- ---- as a test that is computed
 
-abbrev pub given : Outcome ℕ → Outcome ℕ → Bool
-given (gives x) (gives y) = eqb x y
-given (gives x) (refuses r c) = false
-given (refuses r c) (gives y) = false
-given (refuses r c) (refuses q d) = eqb r q && eqb c d
+abbrev pub sameOption : {A : Type 0} → (A → A → Bool) → Option A → Option A → Bool
+sameOption equal none none = true
+sameOption equal none (some b) = false
+sameOption equal (some a) none = false
+sameOption equal (some a) (some b) = equal a b
 
-abbrev pub is : Answer → Answer → Bool
-is (found x k) (found y l) = eqb x y && eqb k l
-is (found x k) (stopped r c) = false
-is (stopped r c) (found y l) = false
-is (stopped r c) (stopped q d) = eqb r q && eqb c d
+abbrev pub sameOutcome : {A : Type 0} → (A → A → Bool) → Outcome A → Outcome A → Bool
+sameOutcome equal (gives a) (gives b) = equal a b
+sameOutcome equal (gives a) (refuses q d) = false
+sameOutcome equal (refuses r c) (gives b) = false
+sameOutcome equal (refuses r c) (refuses q d) = eqb r q && eqb c d
 
-abbrev pub told : Outcome (Option ℕ) → Outcome (Option ℕ) → Bool
-told (gives none) (gives none) = true
-told (gives none) (gives (some j)) = false
-told (gives none) (refuses q d) = false
-told (gives (some i)) (gives none) = false
-told (gives (some i)) (gives (some j)) = eqb i j
-told (gives (some i)) (refuses q d) = false
-told (refuses r c) (gives y) = false
-told (refuses r c) (refuses q d) = eqb r q && eqb c d
+abbrev pub sameAnswer : Answer → Answer → Bool
+sameAnswer (found x k) (found y l) = eqb x y && eqb k l
+sameAnswer (found x k) (stopped q d) = false
+sameAnswer (stopped r c) (found y l) = false
+sameAnswer (stopped r c) (stopped q d) = eqb r q && eqb c d
 
 abbrev pub passes : Case → Bool
-passes (packs xs out r after) = given (packAnswer xs (length out)) r && same (packOutput xs out) after
-passes (accesses s i r) = is (accessOf s i) r
-passes (searches s t r) = is (searchOf s t) r
-passes (counts s t r) = is (upToOf s t) r
-passes (sweeps s ts out r after) = is (sweepOf s ts (length out) .answer) r && same (sweepOutput s ts out) after
-passes (checks s r) = given (checkOf s) r
-passes (unpacks s out r after) = given (unpackOf s (length out)) r && same (unpackOutput s out) after
-passes (repeats s r x) = told (repeatOf s r) x
+passes (packs xs out r after) = sameOutcome eqb (packOf xs (length out)) r && same (packOutput xs out) after
+passes (accesses s i r) = sameAnswer (accessOf s i) r
+passes (searches s t r) = sameAnswer (searchOf s t) r
+passes (upTos s t r) = sameAnswer (upToOf s t) r
+passes (sweeps s ts out r after) = sameAnswer (sweepOf s ts (length out) .answer) r && same (sweepOutput s ts out) after
+passes (checks s r) = sameOutcome eqb (checkOf s) r
+passes (unpacks s out r after) = sameOutcome eqb (unpackOf s (length out)) r && same (unpackOutput s out) after
+passes (repeats s r x) = sameOutcome (sameOption eqb) (repeatOf s r) x
+passes (steps s i x j) = sameOption sameAnswer (stepOf s i) x && eqb (nextOf s i) j
 passes (root n p) = eqb (rootPlace n) p
 passes (tall n h) = eqb (height n) h
 
@@ -174,6 +180,6 @@ all (c ∷ cs) = passes c && all cs
 pub marked-pass : all marked ≡ true
 unfolding bits number sum fixed bytesOf padded kindOf rest layers kindBits widthIn widest bestChunked chosen fixedAt fetchLayers chunkedAt fetched height
     rootPlace childOf stretchIn stretch rank ordered timeOf timeAbove stored storedFrom partOf fetchedAt nodeTimeIn nodeTime walkIn walk met toward lastOf
-    accessAnswer remember targetFrom dropped sweepFrom firstLower verdict endAfter filled laidOut codeFor partFor joined stripOf codeTests opening packAnswer packOutput
-    accessOf searchOf upToOf sweepOf sweepOutput timesFrom positionsTests listIn checkOf plainList unpackOf unpackOutput repeatFrom repeatOf
+    accessAnswer remember targetFrom dropped sweepFrom firstLower verdict endAfter filled laidOut codeFor partFor joined stripOf codeTests opening packOf packOutput
+    accessOf searchOf upToOf sweepOf sweepOutput timesFrom positionsTests listIn checkOf plainList unpackOf unpackOutput repeatFrom repeatOf stepOf nextOf
 marked-pass = refl

@@ -18,12 +18,15 @@ unfoldable pub verdict : {A : Type 0} → List Test → A → Outcome A
 verdict [] a = gives a
 verdict (test holds r c ∷ ts) a = cond holds (refuses r c) (verdict ts a)
 
--- what comes after an outcome, where that is not refused
-abbrev pub after : {A B : Type 0} → Outcome A → (A → Outcome B) → Outcome B
-after (gives a) f = f a
-after (refuses r c) f = refuses r c
+-- what follows an outcome: f of what is given, or the refusal as `refusal` tells it
+abbrev pub follow : {A B : Type 0} → (ℕ → ℕ → B) → Outcome A → (A → B) → B
+follow refusal (gives a) f = f a
+follow refusal (refuses r c) f = refusal r c
 
--- the answer of a walk in its place
+-- another outcome
+abbrev pub after : {A B : Type 0} → Outcome A → (A → Outcome B) → Outcome B
+after o f = follow refuses o f
+
+-- the answer of a walk
 abbrev pub answerAfter : {A : Type 0} → Outcome A → (A → Answer) → Answer
-answerAfter (gives a) f = f a
-answerAfter (refuses r c) f = stopped r c
+answerAfter o f = follow stopped o f

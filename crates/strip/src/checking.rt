@@ -21,8 +21,7 @@ ghost use Rattle.tree.specs.Times.{numberOf, nodeOf};
 ghost use Rattle.tree.specs.Buffers.{replaced};
 ghost use Rattle.strip.specs.Outcomes.{test, verdict};
 ghost use Rattle.strip.specs.Image.{image};
-ghost use Rattle.strip.specs.Calls.{written, listIn, checkIn, checked};
-ghost use Rattle.strip.specs.Written.{packedInto};
+ghost use Rattle.strip.specs.Calls.{roomFor, written, listIn, checkIn, checked};
 ghost use Rattle.strip.specs.Read.{fallsTest, unpackIn};
 
 // Whether two runs of bytes are the same.
@@ -101,8 +100,8 @@ pub(crate) fn check_open(times: &mut [u32], s: &[u8], levels: Levels) -> Checked
 
 // Writes the list to the front of the output, where there is room.
 fn put_list(out: &mut [u32], times: &[u32]) -> Checked
-    ensures { λ r. ⌜ checked r ≡ packedInto (length (now (out .entry))) (now (times .entry)) ⌝ }
-    ensures { λ r. ⌜ now (out .exit) ≡ written (packedInto (length (now (out .entry))) (now (times .entry))) (now (times .entry)) (now (out .entry)) ⌝ }
+    ensures { λ r. ⌜ checked r ≡ roomFor (length (now (out .entry))) (length (now (times .entry))) ⌝ }
+    ensures { λ r. ⌜ now (out .exit) ≡ written (roomFor (length (now (out .entry))) (length (now (times .entry)))) (now (times .entry)) (now (out .entry)) ⌝ }
 {
     let n = times.len();
     if out.len() < n {

@@ -9,6 +9,7 @@ mod refusals; // why a call is refused
 mod repeating; // repeat of an open strip
 mod strip; // the strip type, with the calls
 mod sweeping; // sweep of an open strip
+mod walker; // the pin walker
 mod writing; // the image's bytes
 
 pub use refusals::Refusal;
@@ -19,3 +20,6 @@ pub use strip::Repeated;
 pub use strip::Searched;
 pub use strip::Strip;
 pub use strip::Swept;
+pub use walker::Moved;
+pub use walker::Stepped;
+pub use walker::Walker;

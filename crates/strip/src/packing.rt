@@ -11,8 +11,7 @@ ghost use lib.Dec.{T};
 ghost use lib.ListN.{length};
 ghost use Rattle.tree.specs.Lists.{ordered};
 ghost use Rattle.strip.specs.Image.{planned, stripOf, image};
-ghost use Rattle.strip.specs.Calls.{packed, written};
-ghost use Rattle.strip.specs.Written.{packedInto};
+ghost use Rattle.strip.specs.Calls.{packed, roomFor, written};
 
 // Where the levels of the image lie: each takes the code with fewest bits.
 fn plan(values: &[u32]) -> Levels
@@ -37,8 +36,8 @@ fn plan(values: &[u32]) -> Levels
 // Packs the values of a tree, in node order, where the output has room.
 fn pack_values(out: &mut [u8], work: &mut [u32], values: &[u32]) -> Packed
     requires { ⌜ (length (now values) < 2 ^ 16) × (length (now values) + 1 ≤ 2 * length (now work)) ⌝ }
-    ensures { λ r. ⌜ packed r ≡ packedInto (length (now (out .entry))) (stripOf (now (values .entry))) ⌝ }
-    ensures { λ r. ⌜ now (out .exit) ≡ written (packedInto (length (now (out .entry))) (stripOf (now (values .entry)))) (stripOf (now (values .entry))) (now (out .entry)) ⌝ }
+    ensures { λ r. ⌜ packed r ≡ roomFor (length (now (out .entry))) (length (stripOf (now (values .entry)))) ⌝ }
+    ensures { λ r. ⌜ now (out .exit) ≡ written (roomFor (length (now (out .entry))) (length (stripOf (now (values .entry))))) (stripOf (now (values .entry))) (now (out .entry)) ⌝ }
 {
     let levels = plan(values);
     let h = tree::height(levels.pins);
@@ -53,8 +52,8 @@ fn pack_values(out: &mut [u8], work: &mut [u32], values: &[u32]) -> Packed
 // Packs an ordered list, where the output has room. The values and what encoding works in are arrays for the longest list.
 pub(crate) fn pack_list(out: &mut [u8], times: &[u32]) -> Packed
     requires { ⌜ T (ordered (now times)) × (length (now times) < 2 ^ 16) ⌝ }
-    ensures { λ r. ⌜ packed r ≡ packedInto (length (now (out .entry))) (image (now (times .entry))) ⌝ }
-    ensures { λ r. ⌜ now (out .exit) ≡ written (packedInto (length (now (out .entry))) (image (now (times .entry)))) (image (now (times .entry))) (now (out .entry)) ⌝ }
+    ensures { λ r. ⌜ packed r ≡ roomFor (length (now (out .entry))) (length (image (now (times .entry)))) ⌝ }
+    ensures { λ r. ⌜ now (out .exit) ≡ written (roomFor (length (now (out .entry))) (length (image (now (times .entry))))) (image (now (times .entry))) (now (out .entry)) ⌝ }
 {
     let n = times.len();
     let mut values = [0u32; Strip::MAX_PINS];

@@ -9,13 +9,15 @@ use super::refusals::Refusal;
 use super::refusals::of_walk;
 use super::repeating::repeat_open;
 use super::sweeping::sweep_open;
+use super::walker::Moved;
+use super::walker::Stepped;
 use tree::GREATEST;
 use tree::Levels;
 ghost use mathlib.Core.Path.{_≡_};
 ghost use lib.ListN.{length};
 ghost use Rattle.tree.specs.Shape.{height, rootPlace};
 ghost use Rattle.tree.specs.Levels.{Fits};
-ghost use Rattle.strip.specs.Calls.{packAnswer, packOutput, packed, accessOf, accessIn, accessed, searchOf, searchIn, upToOf, searched, sweepOf, sweepOutput, swept, checkOf, unpackOf, unpackOutput, checked, repeatOf, repeated};
+ghost use Rattle.strip.specs.Calls.{packOf, packOutput, packed, accessOf, accessIn, accessed, searchOf, searchIn, upToOf, searched, sweepOf, sweepOutput, swept, checkOf, unpackOf, unpackOutput, checked, repeatOf, repeated, stepIn, movedBy, stepOf, nextOf, stepped};
 
 pub struct Strip {}
 
@@ -71,6 +73,31 @@ fn access_open(s: &[u8], levels: Levels, i: usize) -> Accessed
     }
 }
 
+// A step of a pin walker on a strip that is open.
+fn step_open(s: &[u8], levels: Levels, next: usize) -> Moved
+    requires { ⌜ Fits levels (now s) ⌝ }
+    ensures { λ r. ⌜ stepped (r .step) ≡ stepIn (now (s .entry)) next levels ⌝ }
+    ensures { λ r. ⌜ r .next ≡ movedBy (stepIn (now (s .entry)) next levels) next ⌝ }
+{
+    if next >= levels.pins {
+        return Moved {
+            step: Stepped::End,
+            next: next,
+        };
+    }
+    let found = access_open(s, levels, next);
+    match found {
+        Accessed::Time(t, nodes) => Moved {
+            step: Stepped::Time(t, nodes),
+            next: next + 1,
+        },
+        Accessed::Refused(r) => Moved {
+            step: Stepped::Refused(r),
+            next: next,
+        },
+    }
+}
+
 // A search of a strip that is open.
 fn search_open(s: &[u8], levels: Levels, target: u32) -> Searched
     requires { ⌜ Fits levels (now s) ⌝ }
@@ -89,7 +116,7 @@ impl Strip {
 
     pub const MAX_HEIGHT: usize = 16;
 
-    // A number of bytes that is enough for any strip: the header, the level entries, and 4 bytes a pin.
+    // A number of bytes that is enough for any list's strip: the header, the level entries, and 4 bytes a pin.
     pub const MAX_BYTES: usize = 7 + 5 * Strip::MAX_HEIGHT + 4 * Strip::MAX_PINS;
 
     // The height of n pins.
@@ -108,7 +135,7 @@ impl Strip {
 
     // Writes the image of a list to the front of the output.
     pub fn pack(out: &mut [u8], times: &[u32]) -> Packed
-        ensures { λ r. ⌜ packed r ≡ packAnswer (now (times .entry)) (length (now (out .entry))) ⌝ }
+        ensures { λ r. ⌜ packed r ≡ packOf (now (times .entry)) (length (now (out .entry))) ⌝ }
         ensures { λ r. ⌜ now (out .exit) ≡ packOutput (now (times .entry)) (now (out .entry)) ⌝ }
     {
         let n = times.len();
@@ -216,6 +243,22 @@ impl Strip {
         match status {
             Status::Open => repeat_open(s, opening.levels, r),
             Status::Refused(why) => Repeated::Refused(why),
+        }
+    }
+
+    // A step of a pin walker at the next position, and the position after it.
+    pub fn step(s: &[u8], next: usize) -> Moved
+        ensures { λ r. ⌜ stepped (r .step) ≡ stepOf (now (s .entry)) next ⌝ }
+        ensures { λ r. ⌜ r .next ≡ nextOf (now (s .entry)) next ⌝ }
+    {
+        let opening = opening_of(s);
+        let status = opening.status;
+        match status {
+            Status::Open => step_open(s, opening.levels, next),
+            Status::Refused(r) => Moved {
+                step: Stepped::Refused(r),
+                next: next,
+            },
         }
     }
 }

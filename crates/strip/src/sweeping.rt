@@ -6,8 +6,9 @@ use super::strip::Swept;
 use tree::Levels;
 ghost use mathlib.Core.Path.{_≡_};
 ghost use lib.ListN.{length};
+ghost use Rattle.codes.specs.Lists.{atFront};
 ghost use Rattle.tree.specs.Levels.{Fits};
-ghost use Rattle.strip.specs.Calls.{atFront, sweepIn, swept};
+ghost use Rattle.strip.specs.Calls.{sweepIn, swept};
 
 // Sweeps a strip that is open.
 pub(crate) fn sweep_open(answers: &mut [u32], s: &[u8], levels: Levels, targets: &[u32]) -> Swept

@@ -1,9 +1,9 @@
 // The bytes of a strip, written piece by piece: header, entries, parts.
 use tree::Levels;
 ghost use mathlib.Core.Path.{_≡_};
-ghost use mathlib.Core.List.{_++_};
 ghost use Prim.Native.Nat.{ℕ, _+_, _*_, _^_, _<_, _≤_};
-ghost use lib.ListN.{length, drop, getD};
+ghost use lib.ListN.{length, getD};
+ghost use Rattle.codes.specs.Lists.{atFront};
 ghost use Rattle.tree.specs.Shape.{height};
 ghost use Rattle.tree.specs.Buffers.{replaced};
 ghost use Rattle.strip.specs.Layout.{maxHeight, header, entry, partsStart};
@@ -79,7 +79,7 @@ fn put_parts(out: &mut [u8], work: &mut [u32], values: &[u32], levels: Levels)
 pub(crate) fn put_strip(out: &mut [u8], work: &mut [u32], values: &[u32], levels: Levels)
     requires { ⌜ (length (now values) < 2 ^ 16) × (length (now values) + 1 ≤ 2 * length (now work)) × (levels ≡ planned (now values)) ⌝ }
     requires { ⌜ length (stripOf (now values)) ≤ length (now out) ⌝ }
-    ensures { λ r. ⌜ now (out .exit) ≡ stripOf (now (values .entry)) ++ drop (length (stripOf (now (values .entry)))) (now (out .entry)) ⌝ }
+    ensures { λ r. ⌜ now (out .exit) ≡ atFront (stripOf (now (values .entry))) (now (out .entry)) ⌝ }
 {
     put_header(out, levels.pins);
     put_entries(out, levels);

@@ -26,3 +26,8 @@ abbrev pub ofRepeat : Outcome (Option ℕ) → Answer
 ofRepeat (gives none) = record { refusal = 0; value = 0; nodes = 0 }
 ofRepeat (gives (some i)) = record { refusal = 0; value = i; nodes = 0 }
 ofRepeat (refuses r c) = record { refusal = r; value = c; nodes = 0 }
+
+-- of a step of a pin walker: no nodes for end, which opens none
+abbrev pub ofStep : Option walks.Answer → Answer
+ofStep none = record { refusal = 0; value = 0; nodes = 0 }
+ofStep (some a) = ofWalk a

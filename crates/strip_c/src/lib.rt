@@ -2,15 +2,16 @@
 ghost use mathlib.Core.Path.{_≡_};
 ghost use lib.ListN.{length};
 ghost use Rattle.tree.specs.Shape.{height, rootPlace};
-ghost use Rattle.strip.specs.Calls.{packAnswer, packOutput, accessOf, searchOf, searched, upToOf, sweepOf, sweepOutput, checkOf, checked, unpackOf, unpackOutput, repeatOf};
+ghost use Rattle.strip.specs.Calls.{packOf, packOutput, accessOf, searchOf, searched, upToOf, sweepOf, sweepOutput, checkOf, checked, unpackOf, unpackOutput, repeatOf, stepOf, nextOf};
 ghost use Rattle.strip.specs.Refusals.{refusalNumber, carried};
-ghost use Rattle.strip_c.specs.Numbers.{ofRefusal, ofWalk, ofOutcome, ofRepeat};
+ghost use Rattle.strip_c.specs.Numbers.{ofRefusal, ofWalk, ofOutcome, ofRepeat, ofStep};
 use strip::Accessed;
 use strip::Checked;
 use strip::Packed;
 use strip::Refusal;
 use strip::Repeated;
 use strip::Searched;
+use strip::Stepped;
 use strip::Strip;
 use strip::Swept;
 
@@ -126,7 +127,7 @@ pub extern "C" fn gemcotton_root_place(n: usize) -> usize
 
 #[no_mangle]
 pub extern "C" fn gemcotton_pack(out: &mut [u8], times: &[u32]) -> Answer
-    ensures { λ r. ⌜ r ≡ ofOutcome (packAnswer (now (times .entry)) (length (now (out .entry)))) ⌝ }
+    ensures { λ r. ⌜ r ≡ ofOutcome (packOf (now (times .entry)) (length (now (out .entry)))) ⌝ }
     ensures { λ r. ⌜ now (out .exit) ≡ packOutput (now (times .entry)) (now (out .entry)) ⌝ }
 {
     let packed = Strip::pack(out, times);
@@ -197,5 +198,20 @@ pub extern "C" fn gemcotton_repeat(s: &[u8], r: u32) -> Answer
         Repeated::First(i) => given(i, 0),
         Repeated::None => given(0, 0),
         Repeated::Refused(why) => refused(why),
+    }
+}
+
+#[no_mangle]
+pub extern "C" fn gemcotton_step(next: &mut usize, s: &[u8]) -> Answer
+    ensures { λ r. ⌜ r ≡ ofStep (stepOf (now (s .entry)) (now (next .entry))) ⌝ }
+    ensures { λ r. ⌜ now (next .exit) ≡ nextOf (now (s .entry)) (now (next .entry)) ⌝ }
+{
+    let moved = Strip::step(s, *next);
+    *next = moved.next;
+    let step = moved.step;
+    match step {
+        Stepped::Time(t, nodes) => given(t as usize, nodes),
+        Stepped::End => given(0, 0),
+        Stepped::Refused(r) => refused(r),
     }
 }

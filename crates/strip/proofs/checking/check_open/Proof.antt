@@ -3,7 +3,7 @@ use native.Mathlib.Omega.{arith}
 use mathlib.Core.Path.{sym, ap, _∙_}
 use Rattle.tree.specs.Listing.{listed}
 use Rattle.strip.specs.Calls.{listIn}
-use Rattle.strip.proofs.Checks.{pins-few, list-count, list-front, checked-all, checked-stopped}
+use Rattle.strip.proofs.Checks.{pins-few, listed-front, checked-all, checked-stopped}
 use borrow.Author.Needs.{needs}
 use Rattle.strip.proofs.checking.check_open.Statement.{statement}
 use Rattle.strip.proofs.checking.check_open.Tie as tie
@@ -22,14 +22,14 @@ unfolding listIn
 slice-aggregate-check-list c =
     let a = c .before .before .before .before .before .before .before .before .before .args in
     let all = sym (ap listed (c .before .enum-told .given .1)) ∙ c .before .before .before .before .before .list .ensures .0 in
-    list-front (a .levels) (a .s .now) (a .levels .pins) (a .times .now) (c .before .before .before .before .before .list .last .0) (list-count (a .levels) (a .s .now) _ all) (c .before .before .before .before .before .list .ensures .1) .count
+    listed-front (a .levels) (a .s .now) _ all (c .before .before .before .before .before .list .ensures .1) .count
 
 check-list-requires : tie.Need-check-list-requires
 unfolding listIn
 check-list-requires c κs =
     let a = c .before .before .before .before .before .before .before .before .before .args in
     let all = sym (ap listed (c .before .enum-told .given .1)) ∙ c .before .before .before .before .before .list .ensures .0 in
-    let f = list-front (a .levels) (a .s .now) (a .levels .pins) (a .times .now) (c .before .before .before .before .before .list .last .0) (list-count (a .levels) (a .s .now) _ all) (c .before .before .before .before .before .list .ensures .1) in
+    let f = listed-front (a .levels) (a .s .now) _ all (c .before .before .before .before .before .list .ensures .1) in
     omega (arith, f .count, pins-few (a .levels) (a .s .now) (c .before .before .before .before .before .before .before .before .before .pre .0))
 
 enum-known-listed : tie.Need-enum-known-listed
@@ -40,14 +40,14 @@ unfolding listIn
 slice-reshare-prefix-check-refused c =
     let a = c .before .before .before .before .before .before .before .before .before .args in
     let end = sym (ap listed (c .before .listed .given .1)) ∙ c .before .before .before .before .before .list .ensures .0 in
-    list-front (a .levels) (a .s .now) _ (a .times .now) (c .before .before .before .before .before .list .last .0) (list-count (a .levels) (a .s .now) _ end) (c .before .before .before .before .before .list .ensures .1) .room
+    listed-front (a .levels) (a .s .now) _ end (c .before .before .before .before .before .list .ensures .1) .room
 
 slice-aggregate-check-refused : tie.Need-slice-aggregate-check-refused
 unfolding listIn
 slice-aggregate-check-refused c =
     let a = c .before .before .before .before .before .before .before .before .before .before .args in
     let end = sym (ap listed (c .before .before .listed .given .1)) ∙ c .before .before .before .before .before .before .list .ensures .0 in
-    list-front (a .levels) (a .s .now) _ (a .times .now) (c .before .before .before .before .before .before .list .last .0) (list-count (a .levels) (a .s .now) _ end) (c .before .before .before .before .before .before .list .ensures .1) .count
+    listed-front (a .levels) (a .s .now) _ end (c .before .before .before .before .before .before .list .ensures .1) .count
 
 check-refused-requires : tie.Need-check-refused-requires
 check-refused-requires c κs = search needs
@@ -60,7 +60,7 @@ unfolding listIn
 returns c =
     let a = c .before .before .before .before .before .before .before .before .before .before .args in
     let all = sym (ap listed (c .before .before .enum-told .given .1)) ∙ c .before .before .before .before .before .before .list .ensures .0 in
-    let f = list-front (a .levels) (a .s .now) (a .levels .pins) (a .times .now) (c .before .before .before .before .before .before .list .last .0) (list-count (a .levels) (a .s .now) _ all) (c .before .before .before .before .before .before .list .ensures .1) in
+    let f = listed-front (a .levels) (a .s .now) _ all (c .before .before .before .before .before .before .list .ensures .1) in
     (c .check-list .ensures ∙ checked-all (a .s .now) (a .levels) (c .before .before .before .before .before .before .list .last .0) all f, c .before .before .before .before .before .before .list .ensures .1)
 
 same-length-2 : tie.Need-same-length-2
@@ -71,7 +71,7 @@ unfolding listIn
 returns-2 c =
     let a = c .before .before .before .before .before .before .before .before .before .before .before .args in
     let end = sym (ap listed (c .before .before .before .listed .given .1)) ∙ c .before .before .before .before .before .before .before .list .ensures .0 in
-    let f = list-front (a .levels) (a .s .now) _ (a .times .now) (c .before .before .before .before .before .before .before .list .last .0) (list-count (a .levels) (a .s .now) _ end) (c .before .before .before .before .before .before .before .list .ensures .1) in
+    let f = listed-front (a .levels) (a .s .now) _ end (c .before .before .before .before .before .before .before .list .ensures .1) in
     (c .check-refused .ensures ∙ checked-stopped (a .s .now) (a .levels) _ _ _ (c .before .before .before .before .before .before .before .list .last .0) end f, c .before .before .before .before .before .before .before .list .ensures .1)
 
 pub check-open-spec : {M : Type 1} → statement M

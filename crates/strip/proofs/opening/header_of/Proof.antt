@@ -10,7 +10,7 @@ use borrow.Author.Tests.{eq-eqb, ne-eqb}
 use Rattle.strip.specs.Outcomes.{gives}
 use Rattle.strip.specs.Opening.{hasMark}
 use Rattle.strip.proofs.Openings.{cut-short, other-mark, other-version, no-pins, entries-cut, header-passes}
-use Rattle.strip.proofs.Layouts.{tall}
+use Rattle.strip.proofs.Layouts.{height-fits}
 use Rattle.strip.proofs.opening.header_of.Statement.{statement}
 use Rattle.strip.proofs.opening.header_of.Tie as tie
 
@@ -66,10 +66,10 @@ height-requires : tie.Need-height-requires
 height-requires c κs = search needs
 
 mul-if7 : tie.Need-mul-if7
-mul-if7 c = omega (arith, tall (c .before .before .two-at2 .result) (omega arith))
+mul-if7 c = omega (arith, height-fits (c .before .before .two-at2 .result) (omega arith))
 
 add-if7 : tie.Need-add-if7
-add-if7 c = omega (arith, tall (c .before .before .two-at2 .result) (omega arith))
+add-if7 c = omega (arith, height-fits (c .before .before .two-at2 .result) (omega arith))
 
 returns-7 : tie.Need-returns-7
 returns-7 c =

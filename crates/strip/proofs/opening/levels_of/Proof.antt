@@ -10,7 +10,7 @@ use Rattle.tree.specs.Shape.{height}
 use Rattle.strip.specs.Outcomes.{verdict}
 use Rattle.strip.specs.Layout.{pinsOf, codeAt, lengthAt, partsStart, endAfter, entered, laidOut}
 use Rattle.strip.specs.Opening.{codeTests, lengthByEntries, lengthTest, levelTests, levelsIn}
-use Rattle.strip.proofs.Layouts.{tall, entered-none, entered-next, entered-all, end-start, end-next, laid-fits}
+use Rattle.strip.proofs.Layouts.{height-fits, entered-none, entered-next, entered-all, end-start, end-next, laid-fits}
 use Rattle.strip.proofs.Openings.{codes-end, codes-refused, codes-pass, length-differs, length-agrees}
 use Rattle.strip.proofs.opening.levels_of.Statement.{statement}
 use Rattle.strip.proofs.opening.levels_of.Tie as tie
@@ -37,7 +37,7 @@ loop-holds : tie.Need-loop-holds Inv-loop μ-loop
 loop-holds c =
     let n = c .before .before .before .before .args .n in
     let s = c .before .before .before .before .args .s .now in
-    let low = tall n (omega arith) in
+    let low = height-fits n (omega arith) in
     let blank = c .before .no-levels .ensures in
     let start : getD (c .before .no-levels .result .ends) 0 0 ≡ partsStart n = rw blank in (
       omega arith,

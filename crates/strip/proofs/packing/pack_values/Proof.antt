@@ -6,7 +6,7 @@ use borrow.Author.Tests.{lt-ltb, le-ltb}
 use Rattle.tree.specs.Shape.{height}
 use Rattle.strip.specs.Outcomes.{verdict}
 use Rattle.strip.specs.Image.{stripOf}
-use Rattle.strip.proofs.Layouts.{tall}
+use Rattle.strip.proofs.Layouts.{height-fits}
 use Rattle.strip.proofs.Plans.{plan-pins, plan-end}
 use borrow.Author.Needs.{needs}
 use Rattle.strip.proofs.packing.pack_values.Statement.{statement}
@@ -21,12 +21,12 @@ height-requires c κs = search needs
 mul-end : tie.Need-mul-end
 mul-end c =
     let values = c .before .before .before .before .before .args .values .now in
-    omega (arith, ap height (plan-pins values (c .before .plan .result) (c .before .plan .ensures)), tall (length values) (c .before .before .before .before .before .pre .0))
+    omega (arith, ap height (plan-pins values (c .before .plan .result) (c .before .plan .ensures)), height-fits (length values) (c .before .before .before .before .before .pre .0))
 
 element-copy-out-end : tie.Need-element-copy-out-end
 element-copy-out-end c =
     let values = c .before .before .before .before .before .args .values .now in
-    omega (arith, ap height (plan-pins values (c .before .plan .result) (c .before .plan .ensures)), tall (length values) (c .before .before .before .before .before .pre .0))
+    omega (arith, ap height (plan-pins values (c .before .plan .result) (c .before .plan .ensures)), height-fits (length values) (c .before .before .before .before .before .pre .0))
 
 returns : tie.Need-returns
 unfolding verdict

@@ -8,7 +8,7 @@ use Rattle.codes.specs.Codes.{Within}
 use Rattle.codes.specs.Choice.{chosen}
 use Rattle.strip.specs.Layout.{partsStart, endAfter, entered}
 use Rattle.strip.specs.Image.{valuesAt, codeFor, lengthFor}
-use Rattle.strip.proofs.Layouts.{tall, entered-none, entered-next, entered-all, end-start, end-next}
+use Rattle.strip.proofs.Layouts.{height-fits, entered-none, entered-next, entered-all, end-start, end-next}
 use Rattle.strip.proofs.Plans.{level-next, level-short, level-code, length-chosen, size-small}
 use Rattle.strip.proofs.packing.plan.Statement.{statement}
 use Rattle.strip.proofs.packing.plan.Tie as tie
@@ -34,7 +34,7 @@ loop-holds : tie.Need-loop-holds Inv-loop μ-loop
 loop-holds c =
     let values = c .before .before .before .before .args .values .now in
     let n = length values in
-    let low = tall n (omega arith) in
+    let low = height-fits n (omega arith) in
     let blank = c .before .no-levels .ensures in
     let start : getD (c .before .no-levels .result .ends) 0 0 ≡ partsStart n = rw blank in (
       omega arith,

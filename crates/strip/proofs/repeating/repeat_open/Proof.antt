@@ -5,7 +5,7 @@ use lib.ListN.{length-replicate}
 use mathlib.Core.Path.{sym, ap, _∙_}
 use Rattle.tree.specs.Listing.{nowhere, listed}
 use Rattle.strip.specs.Calls.{listIn}
-use Rattle.strip.proofs.Checks.{pins-few, list-count, list-front, repeated-lists}
+use Rattle.strip.proofs.Checks.{pins-few, listed-front, repeated-lists}
 use Rattle.strip.specs.Layout.{maxPins}
 use borrow.Author.Needs.{needs}
 use Rattle.strip.proofs.repeating.repeat_open.Statement.{statement}
@@ -25,14 +25,14 @@ unfolding listIn
 array-share-prefix-times c =
     let a = c .before .before .before .before .before .before .args in
     let all = sym (ap listed (c .enum-told .given .1)) ∙ c .before .before .before .list .ensures .0 in
-    list-front (a .levels) (a .s .now) (a .levels .pins) _ (c .before .before .before .list .last .0) (list-count (a .levels) (a .s .now) _ all) (c .before .before .before .list .ensures .1) .room
+    listed-front (a .levels) (a .s .now) _ all (c .before .before .before .list .ensures .1) .room
 
 slice-aggregate-gap-or : tie.Need-slice-aggregate-gap-or
 unfolding listIn
 slice-aggregate-gap-or c =
     let a = c .before .before .before .before .before .before .before .args in
     let all = sym (ap listed (c .before .enum-told .given .1)) ∙ c .before .before .before .before .list .ensures .0 in
-    list-front (a .levels) (a .s .now) (a .levels .pins) _ (c .before .before .before .before .list .last .0) (list-count (a .levels) (a .s .now) _ all) (c .before .before .before .before .list .ensures .1) .count
+    listed-front (a .levels) (a .s .now) _ all (c .before .before .before .before .list .ensures .1) .count
 
 gap-or-requires : tie.Need-gap-or-requires
 gap-or-requires c κs = search needs
@@ -45,14 +45,14 @@ unfolding listIn
 array-share-prefix-times-2 c =
     let a = c .before .before .before .before .before .before .before .args in
     let end = sym (ap listed (c .before .listed .given .1)) ∙ c .before .before .before .before .list .ensures .0 in
-    list-front (a .levels) (a .s .now) _ _ (c .before .before .before .before .list .last .0) (list-count (a .levels) (a .s .now) _ end) (c .before .before .before .before .list .ensures .1) .room
+    listed-front (a .levels) (a .s .now) _ end (c .before .before .before .before .list .ensures .1) .room
 
 slice-aggregate-gap-or-2 : tie.Need-slice-aggregate-gap-or-2
 unfolding listIn
 slice-aggregate-gap-or-2 c =
     let a = c .before .before .before .before .before .before .before .before .args in
     let end = sym (ap listed (c .before .before .listed .given .1)) ∙ c .before .before .before .before .before .list .ensures .0 in
-    list-front (a .levels) (a .s .now) _ _ (c .before .before .before .before .before .list .last .0) (list-count (a .levels) (a .s .now) _ end) (c .before .before .before .before .before .list .ensures .1) .count
+    listed-front (a .levels) (a .s .now) _ end (c .before .before .before .before .before .list .ensures .1) .count
 
 of-walk-requires : tie.Need-of-walk-requires
 of-walk-requires c κs = search needs
@@ -65,7 +65,7 @@ unfolding listIn
 returns c =
     let a = c .before .before .before .before .before .before .before .before .args in
     let all = sym (ap listed (c .before .before .enum-told .given .1)) ∙ c .before .before .before .before .before .list .ensures .0 in
-    let f = list-front (a .levels) (a .s .now) (a .levels .pins) _ (c .before .before .before .before .before .list .last .0) (list-count (a .levels) (a .s .now) _ all) (c .before .before .before .before .before .list .ensures .1) in
+    let f = listed-front (a .levels) (a .s .now) _ all (c .before .before .before .before .before .list .ensures .1) in
     c .gap-or .ensures ∙ repeated-lists (a .s .now) (a .levels) (a .r) nowhere (a .levels .pins) (c .before .before .before .before .before .list .last .0) all f
 
 returns-2 : tie.Need-returns-2
@@ -73,7 +73,7 @@ unfolding listIn
 returns-2 c =
     let a = c .before .before .before .before .before .before .before .before .before .before .args in
     let end = sym (ap listed (c .before .before .before .before .listed .given .1)) ∙ c .before .before .before .before .before .before .before .list .ensures .0 in
-    let f = list-front (a .levels) (a .s .now) _ _ (c .before .before .before .before .before .before .before .list .last .0) (list-count (a .levels) (a .s .now) _ end) (c .before .before .before .before .before .before .before .list .ensures .1) in
+    let f = listed-front (a .levels) (a .s .now) _ end (c .before .before .before .before .before .before .before .list .ensures .1) in
     rw (c .before .of-walk .ensures .0, c .before .of-walk .ensures .1) at (c .gap-or2 .ensures) ∙ repeated-lists (a .s .now) (a .levels) (a .r) _ _ (c .before .before .before .before .before .before .before .list .last .0) end f
 
 pub repeat-open-spec : {M : Type 1} → statement M

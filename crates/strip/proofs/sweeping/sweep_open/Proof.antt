@@ -2,9 +2,9 @@
 use native.Mathlib.Omega.{arith}
 use mathlib.Core.Path.{refl, sym, ap, _∙_}
 use lib.ListN.{length}
+use Rattle.tree.specs.Times.{timesIn}
 use Rattle.tree.specs.Walks.{stopped}
 use Rattle.tree.specs.Sweeps.{sweep, swept}
-use Rattle.strip.specs.Calls.{timesIn}
 use Rattle.tree.proofs.Buffers.{replaced-front}
 use Rattle.strip.proofs.Gaps.{not-ordered, is-ordered}
 use Rattle.strip.proofs.Sweeps.{lengths-differ, targets-fall, targets-follow}

@@ -11,7 +11,7 @@ use Rattle.tree.proofs.Promises.{stored-levels}
 use Rattle.strip.specs.Layout.{partsStart}
 use Rattle.strip.specs.Image.{partFor, joined}
 use Rattle.tree.specs.Buffers.{replaced}
-use Rattle.strip.proofs.Layouts.{tall}
+use Rattle.strip.proofs.Layouts.{height-fits}
 use Rattle.strip.proofs.Plans.{plan-pins, plan-spot, level-next, level-holds}
 use Rattle.tree.proofs.Buffers.{replaced-none, replaced-more, length-replaced}
 use Rattle.strip.proofs.Pieces.{joined-next, length-lent, lent-written}
@@ -37,7 +37,7 @@ loop-holds c =
     let p = c .before .before .before .before .pre .0 in
     let h = c .height .ensures ∙ ap height (plan-pins (a .values .now) (a .t4) (p .2)) in (
       omega arith,
-      rw h (tall (length (a .values .now)) (p .0)),
+      rw h (height-fits (length (a .values .now)) (p .0)),
       h,
       λ j. c .before .shared-slice-known .given j .fits,
       refl,

@@ -9,7 +9,7 @@ use Rattle.strip.specs.Layout.{partsStart}
 use Rattle.strip.specs.Image.{partFor, joined}
 use Rattle.tree.specs.Buffers.{replaced}
 use Rattle.strip.specs.Written.{entryIn}
-use Rattle.strip.proofs.Layouts.{tall}
+use Rattle.strip.proofs.Layouts.{height-fits}
 use Rattle.strip.proofs.Plans.{plan-pins, plan-at, length-strip, strip-written}
 use borrow.Author.Needs.{needs}
 use Rattle.strip.proofs.writing.put_strip.Statement.{statement}
@@ -26,7 +26,7 @@ put-entries-requires c κs =
     let n = plan-pins values (a .levels) (p .2) in
     let in-order : (d : ℕ) → d < height (a .levels .pins) → getD (a .levels .ends) d 0 ≤ getD (a .levels .ends) (d + 1) 0 =
     λ d h. let k = plan-at values (p .0) d (rw n at h) in rw (p .2) (omega (arith, k .starts, k .ends-at)) in
-    ((rw n (tall (length values) (p .0)), rw n (omega (arith, length-strip values))), in-order)
+    ((rw n (height-fits (length values) (p .0)), rw n (omega (arith, length-strip values))), in-order)
 
 put-parts-requires : tie.Need-put-parts-requires
 put-parts-requires c κs = search needs

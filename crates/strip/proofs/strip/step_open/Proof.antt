@@ -1,0 +1,47 @@
+-- `step_open` meets its contract.
+use native.Mathlib.Omega.{arith}
+use mathlib.Core.Path.{refl, sym, ap, _∙_}
+use borrow.Author.Tests.{lt-ltb, le-ltb}
+use Rattle.strip.specs.Calls.{accessed}
+use borrow.Author.Needs.{needs}
+use Rattle.strip.proofs.strip.step_open.Statement.{statement}
+use Rattle.strip.proofs.strip.step_open.Tie as tie
+
+returns : tie.Need-returns
+returns c = rw (le-ltb (c .before .before .before .args .next) (c .before .before .before .args .levels .pins) (omega arith)) (refl, refl)
+
+access-open-requires : tie.Need-access-open-requires
+access-open-requires c κs = search needs
+
+enum-known-found : tie.Need-enum-known-found
+enum-known-found c = search needs
+
+add-t12 : tie.Need-add-t12
+add-t12 c = search needs
+
+enum-known-found-2 : tie.Need-enum-known-found-2
+enum-known-found-2 c = search needs
+
+returns-2 : tie.Need-returns-2
+returns-2 c =
+    let a = c .before .before .before .before .before .before .before .args in
+    let e = sym (ap accessed (c .before .found .given .1)) ∙ c .before .before .before .access-open .ensures in
+    rw (sym e, lt-ltb (a .next) (a .levels .pins) (omega arith)) (refl, omega arith)
+
+returns-3 : tie.Need-returns-3
+returns-3 c =
+    let a = c .before .before .before .before .before .before .before .args in
+    let e = sym (ap accessed (c .before .found2 .given .1)) ∙ c .before .before .before .access-open .ensures in
+    rw (sym e, lt-ltb (a .next) (a .levels .pins) (omega arith)) (refl, refl)
+
+pub step-open-spec : {M : Type 1} → statement M
+step-open-spec =
+    tie.close
+    (tie.spec
+    returns
+    access-open-requires
+    enum-known-found
+    add-t12
+    enum-known-found-2
+    returns-2
+    returns-3)
