@@ -1,0 +1,97 @@
+//! The calls on one strip: packs a list, checks the strip, looks it up by position and by time,
+//! walks it, and meets refusals. Prints what it finds, as in `c/example.stdout`; `c/example.c` is
+//! the same in C. From the repository's folder, with `target/staticlib/libstrip_c.a` built:
+//!
+//! ```sh
+//! cargo run --manifest-path rust/Cargo.toml -p gemcotton --example calls
+//! ```
+
+use gemcotton::{access, check, pack, repeat, search, sweep, unpack, up_to};
+use gemcotton::{Refusal, Walker, MAX_BYTES};
+
+/// The strike times, in milliseconds. Two strikes at 250 are a chord.
+const LIST: [u32; 5] = [100, 250, 250, 400, 1000];
+
+/// Times to look up in one sweep, none less than the one before.
+const TARGETS: [u32; 3] = [250, 251, 1001];
+
+/// A list that falls, which no strip holds.
+const FALLING: [u32; 2] = [7, 6];
+
+fn main() -> Result<(), Refusal> {
+    // Room for any list's strip, which is the first `length` bytes.
+    let mut out = vec![0; MAX_BYTES];
+    let length = pack(&mut out, &LIST)?;
+    let strip = &out[..length];
+    println!("packed into {length} bytes");
+
+    // A strip that comes from elsewhere is checked before its answers are relied on.
+    let pins = check(strip)?;
+    println!("accepted, with {pins} pins");
+
+    // By position.
+    let found = access(strip, 3)?;
+    let (time, nodes) = (found.time, found.nodes);
+    println!("position 3: {time} ms (nodes opened: {nodes})");
+
+    // By time.
+    let found = search(strip, 251)?;
+    let (position, nodes) = (found.position, found.nodes);
+    println!("first at or after 251 ms: position {position} (nodes opened: {nodes})");
+    let found = up_to(strip, 250)?;
+    let (strikes, nodes) = (found.strikes, found.nodes);
+    println!("at or before 250 ms: {strikes} strikes (nodes opened: {nodes})");
+
+    // By many times in one walk. The pin count is the answer where there is no strike at or after
+    // the target.
+    let mut positions = [0; TARGETS.len()];
+    let nodes = sweep(&mut positions, strip, &TARGETS)?;
+    println!("sweep (nodes opened: {nodes})");
+    for (target, position) in TARGETS.into_iter().zip(positions) {
+        if (position as usize) < pins {
+            println!("  first at or after {target} ms: position {position}");
+        } else {
+            println!("  first at or after {target} ms: none");
+        }
+    }
+
+    // The first gap below 150 ms.
+    if let Some(position) = repeat(strip, 150)? {
+        println!("first less than 150 ms after the one before: position {position}");
+    }
+
+    // All times at once.
+    let mut times = vec![0; pins];
+    unpack(&mut times, strip)?;
+    print!("unpacked:");
+    for time in times {
+        print!(" {time}");
+    }
+    println!();
+
+    // One time after the other. The loop ends at the end, or after the first refusal.
+    println!("walk");
+    for (position, found) in Walker::new(strip).into_iter().enumerate() {
+        println!("  position {position}: {} ms", found?.time);
+    }
+    println!("  end");
+
+    // The strip without its last byte is refused. A refused step does not move the walker.
+    println!("without its last byte");
+    let cut = &strip[..length - 1];
+    if let Err(refusal) = check(cut) {
+        let (number, carried) = (refusal.number(), refusal.carried());
+        println!("  check: refused {number}, carrying {carried}");
+    }
+    let mut walker = Walker::new(cut);
+    if let Err(refusal) = walker.step() {
+        let (number, carried, next) = (refusal.number(), refusal.carried(), walker.next);
+        println!("  step: refused {number}, carrying {carried}, next position {next}");
+    }
+
+    // A refusal is told by its case, and what it carries says where.
+    if let Err(Refusal::ListFalls { position }) = pack(&mut out, &FALLING) {
+        println!("the list 7, 6 falls at position {position}");
+    }
+    Ok(())
+}
