@@ -43,6 +43,11 @@ pub fn sorted(mut times: Vec<u32>) -> Vec<u32> {
     times
 }
 
+/// The list as far below the greatest time as this one is above 0.
+pub fn mirrored(times: &[u32]) -> Vec<u32> {
+    times.iter().rev().map(|&time| !time).collect()
+}
+
 /// Lists of n that fall, with the first lower position: each position of a short list, some of a
 /// long one.
 pub fn falling_lists(n: usize, random: &mut Random) -> Vec<(Vec<u32>, usize)> {
@@ -115,6 +120,17 @@ pub fn few_lists(n: usize, count: usize, random: &mut Random) -> Vec<Vec<u32>> {
     }
     let list = |shape| list(n, shape, random);
     shapes.into_iter().map(list).collect()
+}
+
+/// What n nodes store, whether or not a list makes it, of three sorts round by round.
+pub fn any_values(n: usize, round: usize, random: &mut Random) -> Vec<u32> {
+    let mut values: Vec<u32> = (0..n).map(|_| random.skewed()).collect();
+    match round % 3 {
+        0 => values.fill_with(|| random.extreme()),
+        1 => values[0] = !values[0],
+        _ => {}
+    }
+    values
 }
 
 // ---- What is asked ----

@@ -8,11 +8,16 @@ pub fn chosen(_: usize, values: &[u32]) -> u8 {
     choose(values).0
 }
 
+/// The least width that holds the values.
+pub fn least_width(values: &[u32]) -> u8 {
+    let greatest = values.iter().max().copied().unwrap_or(0);
+    (32 - greatest.leading_zeros()) as u8
+}
+
 /// Names a random one of the codes that hold the values.
 pub fn any_code(random: &mut Random) -> impl FnMut(usize, &[u32]) -> u8 + '_ {
     |_, values| {
-        let width = 32 - values.iter().max().map_or(32, |v| v.leading_zeros());
-        let codes: Vec<u8> = (width as u8..=32).chain(65..=72).collect();
+        let codes: Vec<u8> = (least_width(values)..=32).chain(65..=72).collect();
         codes[random.below(codes.len())]
     }
 }

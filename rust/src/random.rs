@@ -27,6 +27,12 @@ impl Random {
         self.of_width(width)
     }
 
+    /// A number at or near the ends or the middle.
+    pub fn extreme(&mut self) -> u32 {
+        let numbers = [0, 1, 2, (1 << 31) - 1, 1 << 31, u32::MAX - 1, u32::MAX];
+        numbers[self.below(numbers.len())]
+    }
+
     pub fn bytes(&mut self, length: usize) -> Vec<u8> {
         (0..length).map(|_| self.draw() as u8).collect()
     }

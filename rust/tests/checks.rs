@@ -4,9 +4,9 @@
 use std::fmt::Debug;
 use std::thread;
 
-use gemcotton_tests::lend::lend;
+use gemcotton_tests::lend::{lend, words};
 use gemcotton_tests::lists::{around_powers, few_lists, few_pins, lists, rising};
-use gemcotton_tests::parts::{any_code, chains, chosen, part_of_chunks};
+use gemcotton_tests::parts::{any_code, chains, chosen, least_width, part_of_chunks};
 use gemcotton_tests::random::Random;
 use gemcotton_tests::reference::strip as reference;
 use gemcotton_tests::reference::strip::{image, refused, Refusal, PINS};
@@ -15,9 +15,10 @@ use gemcotton_tests::reference::tree::{
 };
 use gemcotton_tests::reference::{choose, encode, size};
 use gemcotton_tests::strips::{
-    change_bytes, changed_b, changes_of_bytes, changes_of_one_byte, cuts_and_bytes_added,
-    damaged_levels, faulty, most_stored, parts_cut_short, pins, random_parts, random_strips,
-    surrounded, with_number, with_value, wrapping_sums, A, B, TIMES_A,
+    change_bytes, changes_of_bytes, changes_of_one_byte, damaged_levels, example, front, is_fixed,
+    meet, most_stored, packed, parts_cut_short, past_the_greatest_time, pins, random_parts,
+    random_strips, refused_at_opening, strip_of_values, strips_of_no_list, surrounded, with_number,
+    with_value, zeros, A, B, TIMES_A,
 };
 use gemcotton_tests::tally::Tally;
 use gemcotton_tests::{proved, straightforward};
@@ -86,7 +87,7 @@ impl Strip<'_> {
         for calls in &COMPARED {
             let place = || self.place(calls, ("unpack", room));
             let unpack = |out: &mut [u32]| (calls.unpack)(self.0, out);
-            let (found, kept) = lend(room, expected.unwrap_or(&[]), unpack);
+            let (found, kept) = lend(3, room, words, expected.unwrap_or(&[]), unpack);
             assert_eq!(found, expected.map(<[u32]>::len), "{}", place());
             assert!(kept, "{}", place());
         }
@@ -99,11 +100,9 @@ impl Strip<'_> {
         }
     }
 
-    /// Where a comparison failed. Of a long strip the front is told.
+    /// Where a comparison failed.
     fn place(self, calls: &Calls, call: impl Debug) -> String {
-        let (name, length) = (calls.name, self.0.len());
-        let front = &self.0[..length.min(300)];
-        format!("{name}: {call:?} in {length} bytes: {front:02X?}")
+        format!("{}: {call:?} in {}", calls.name, front(self.0))
     }
 
     /// Every call must be refused so.
@@ -160,8 +159,7 @@ fn rooms(n: usize, random: &mut Random) -> Vec<usize> {
 /// Whether the reference reads the strip in good time: for each position it reads the chunked
 /// levels' bits anew.
 fn is_quick(strip: &[u8]) -> bool {
-    let n = pins(strip);
-    n < 1000 || (0..height(n)).all(|level| strip[7 + 5 * level] <= 32)
+    pins(strip) < 1000 || is_fixed(strip)
 }
 
 /// Asks a strip that reads as these times and then is refused so, or has no more positions. This
@@ -260,7 +258,7 @@ fn short_lists() {
     for n in 1..=300 {
         let count = if n <= 30 { usize::MAX } else { 3 };
         for times in few_lists(n, count, &mut random) {
-            let strip = reference::pack(&times, usize::MAX).expect("a list");
+            let strip = packed(&times);
             assert!(check_read(&strip, &times, Ok(()), &mut random));
         }
     }
@@ -277,7 +275,7 @@ fn long_lists() {
             _ => 1,
         };
         for times in few_lists(n, count, &mut random) {
-            let strip = reference::pack(&times, usize::MAX).expect("a list");
+            let strip = packed(&times);
             assert!(check_read(&strip, &times, Ok(()), &mut random));
             quick += usize::from(n == PINS && is_quick(&strip));
         }
@@ -305,7 +303,7 @@ fn nothing_lent() {
 fn stack_of_one_mebibyte() {
     let mut random = Random(3);
     let times = rising(PINS, || random.of_width(4));
-    let strip = reference::pack(&times, usize::MAX).expect("a list");
+    let strip = packed(&times);
     let calls = move || {
         let mut list = vec![0; PINS];
         for strip in [&strip[..], &B] {
@@ -374,41 +372,26 @@ fn times_past_the_ends() {
 
 #[test]
 fn values_of_no_list() {
-    let mut random = Random(6);
-    let mut met = Met::default();
-    for n in 1..=70 {
-        for round in 0..30 {
-            let mut values: Vec<u32> = (0..n).map(|_| random.skewed()).collect();
-            if round % 2 == 0 {
-                values[0] = !values[0];
-            }
-            let levels = parts_of_values(&values, any_code(&mut random));
-            check_damaged(&image(n, &levels), &mut met, &mut random);
-        }
-    }
-    met.require(&[10, 11], 200);
+    let met = meet(&mut Random(6), strips_of_no_list, check_damaged);
+    met.require(&[10, 11], 300);
     met.check.require_none(9);
 }
 
 #[test]
 fn refusals_late_in_every_level() {
     let mut random = Random(7);
-    let zeros = parts_of_values(&[0; PINS], |_, _| 1);
     for level in 2..=HEIGHT {
         let (first, last) = nodes_of_level(PINS, level).into_inner();
         // The part's last byte is missing, and with it up to eight nodes: 9.
-        let mut levels = zeros.clone();
+        let mut levels = zeros();
         levels[level - 1].1.pop();
         let v = first.max(last.saturating_sub(7));
         let times = vec![0; stretch(PINS, v).0];
         let strip = image(PINS, &levels);
         check_read(&strip, &times, refused(9, v), &mut random);
-        // Under the greatest time the level's last node stores 1: 10.
-        let mut levels = zeros.clone();
-        levels[0] = (32, vec![0xFF; 4]);
-        *levels[level - 1].1.last_mut().expect("a part") |= 1 << (8 - first.min(8));
+        // The level's last node passes the greatest time: 10.
         let times = vec![u32::MAX; stretch(PINS, last).0];
-        let strip = image(PINS, &levels);
+        let strip = past_the_greatest_time(level);
         check_read(&strip, &times, refused(10, last), &mut random);
     }
 }
@@ -467,17 +450,17 @@ fn nodes_past_one_above_the_parent() {
             levels_above[v % 2][height(v) - height(above)] += 1;
             // At its time there is a chord, and so another list.
             let chord = moved(&times, v, 0);
-            let strip = image(n, &parts_of_values(&stored(&chord), chosen));
+            let strip = strip_of_values(&stored(&chord), chosen);
             assert!(check_read(&strip, &chord, Ok(()), &mut random));
             for further in [1, 1 + random.of_width(10)] {
                 let falling = moved(&times, v, further);
-                let strip = image(n, &parts_of_values(&stored(&falling), chosen));
+                let strip = strip_of_values(&stored(&falling), chosen);
                 check_falling(&strip, &falling, &mut random);
             }
             // In other codes, 11 comes before 12.
             let falling = moved(&times, v, 1);
-            let levels = parts_of_values(&stored(&falling), any_code(&mut random));
-            check_falling(&image(n, &levels), &falling, &mut random);
+            let strip = strip_of_values(&stored(&falling), any_code(&mut random));
+            check_falling(&strip, &falling, &mut random);
         }
     }
     for [_, parents, grandparents, further @ ..] in levels_above {
@@ -499,8 +482,8 @@ fn nodes_past_others_in_long_lists() {
             for v in [left, left - 1] {
                 let falling = moved(&times, v, 1);
                 // The reference is quick in fixed widths.
-                let levels = parts_of_values(&stored(&falling), |_, _| 25);
-                check_falling(&image(n, &levels), &falling, &mut random);
+                let strip = strip_of_values(&stored(&falling), |_, _| 25);
+                check_falling(&strip, &falling, &mut random);
             }
         }
     }
@@ -523,11 +506,11 @@ fn values_changed() {
                         _ => value.saturating_sub(by),
                     };
                 }
-                let levels = match round % 2 {
-                    0 => parts_of_values(&values, chosen),
-                    _ => parts_of_values(&values, any_code(&mut random)),
+                let strip = match round % 2 {
+                    0 => strip_of_values(&values, chosen),
+                    _ => strip_of_values(&values, any_code(&mut random)),
                 };
-                check_damaged(&image(n, &levels), &mut met, &mut random);
+                check_damaged(&strip, &mut met, &mut random);
             }
         }
     }
@@ -633,10 +616,7 @@ fn chunks_of_zeros_on_top() {
 
 #[test]
 fn every_change_of_one_byte() {
-    let mut met = Met::default();
-    changes_of_one_byte(&mut Random(14), |strip, random| {
-        check_damaged(strip, &mut met, random);
-    });
+    let met = meet(&mut Random(14), changes_of_one_byte, check_damaged);
     met.require(&[0, 5, 6, 7, 8, 9, 10, 11, 12, 13], 1000);
     met.require(&[1], 10);
     met.unpack.require(&[4], 100);
@@ -644,18 +624,8 @@ fn every_change_of_one_byte() {
 }
 
 #[test]
-fn every_cut_and_bytes_added() {
-    cuts_and_bytes_added(&mut Random(15), |strip, number| {
-        Strip(strip).check_refused(number, 0);
-    });
-}
-
-#[test]
 fn parts_of_levels_cut_short() {
-    let mut met = Met::default();
-    parts_cut_short(&mut Random(16), |strip, random| {
-        check_damaged(strip, &mut met, random);
-    });
+    let met = meet(&mut Random(16), parts_cut_short, check_damaged);
     met.require(&[9], 1000);
     met.check.require_none(10);
     assert!(met.gaps >= 1000, "{met:?}");
@@ -663,19 +633,13 @@ fn parts_of_levels_cut_short() {
 
 #[test]
 fn changed_bytes() {
-    let mut met = Met::default();
-    changes_of_bytes(&mut Random(17), |strip, random| {
-        check_damaged(strip, &mut met, random);
-    });
+    let met = meet(&mut Random(17), changes_of_bytes, check_damaged);
     met.require(&[5, 6, 7, 8, 9, 10, 11, 12, 13], 50);
 }
 
 #[test]
 fn parts_of_random_bytes() {
-    let mut met = Met::default();
-    random_parts(&mut Random(18), |strip, random| {
-        check_damaged(strip, &mut met, random);
-    });
+    let met = meet(&mut Random(18), random_parts, check_damaged);
     met.require(&[9, 10, 11, 12], 100);
 }
 
@@ -685,12 +649,9 @@ fn damage_in_long_lists() {
     let mut met = Met::default();
     let mut test = |strip: &[u8], random: &mut Random| check_damaged(strip, &mut met, random);
     // The reference is slow in chunked levels of long lists, and quick in fixed widths.
-    let least_width = |_: usize, values: &[u32]| {
-        let holds = |&code: &u8| size(values, code).is_some();
-        (0..=32).find(holds).expect("width 32 holds every level")
-    };
+    let fixed = |_: usize, values: &[u32]| least_width(values);
     damaged_levels(&[1000, 3000], chosen, &mut random, &mut test);
-    damaged_levels(&[40_000, PINS], least_width, &mut random, &mut test);
+    damaged_levels(&[40_000, PINS], fixed, &mut random, &mut test);
     met.require(&[9, 11], 5);
 }
 
@@ -699,7 +660,7 @@ fn damage_in_chunked_levels_of_the_longest_list() {
     let mut random = Random(20);
     let mut tally = Tally::default();
     let times = rising(PINS, || random.skewed() & random.of_width(14));
-    let strip = image(PINS, &parts_of_values(&stored(&times), chosen));
+    let strip = packed(&times);
     for _ in 0..30 {
         let mut strip = strip.clone();
         change_bytes(&mut strip, 7 + 5 * HEIGHT, &mut random);
@@ -724,24 +685,16 @@ fn damage_in_chunked_levels_of_the_longest_list() {
 }
 
 #[test]
-fn lengths_whose_sum_would_wrap() {
-    wrapping_sums(&mut Random(21), |strip| Strip(strip).check_refused(13, 0));
-}
-
-#[test]
 fn random_headers() {
-    let mut met = Met::default();
-    random_strips(&mut Random(22), |strip, random| {
-        check_damaged(strip, &mut met, random);
-    });
+    let met = meet(&mut Random(22), random_strips, check_damaged);
     met.require(&[1, 5, 6, 7, 8, 9, 10, 11, 12, 13], 100);
 }
 
 #[test]
-fn order_of_refusals_at_opening() {
-    for (strip, (number, carried)) in faulty() {
-        Strip(&strip).check_refused(number, carried);
-    }
+fn refusals_at_opening() {
+    refused_at_opening(&mut Random(15), |strip, number, carried| {
+        Strip(strip).check_refused(number, carried);
+    });
 }
 
 // ---- Marked cases and examples ----
@@ -762,26 +715,16 @@ fn marked_cases() {
 
 #[test]
 fn examples_of_refusals() {
-    Strip(&changed_b(6, 0)).check_refused(1, 0);
     assert_eq!(Strip(&A).unpack(4), refused(4, 5));
-    Strip(&[0x50, 0x49, 0x4E]).check_refused(5, 0);
-    Strip(&changed_b(2, 0x4F)).check_refused(6, 0);
-    Strip(&changed_b(4, 2)).check_refused(7, 0);
-    Strip(&changed_b(7, 33)).check_refused(8, 1);
-    // "N = 1, code 1, length 0: 1".
-    Strip(&changed_b(7, 1)).check_refused(9, 1);
-    // "Root 0, node 2 stores 1: 2".
-    Strip(&image(2, &parts_of_values(&[0, 1], chosen))).check_refused(10, 2);
-    // "A, node 5 storing 151: 3".
-    let falls = image(5, &parts_of_values(&[400, 150, 600, 150, 151], chosen));
+    Strip(&example(9)).check_refused(9, 1);
+    Strip(&example(10)).check_refused(10, 2);
+    let falls = example(11);
     assert_eq!(Strip(&falls).check(), refused(11, 3));
     assert_eq!(Strip(&falls).unpack(0), refused(11, 3));
     assert_eq!(Strip(&falls).repeat(150), refused(11, 3));
     assert_eq!(Strip(&falls).repeat(151), Ok(Some(1)));
-    // "N = 1, code 65, length 1, byte 00".
-    let other = image(1, &[(65, vec![0])]);
+    let other = example(12);
     assert_eq!(Strip(&other).check(), refused(12, 0));
     assert_eq!(Strip(&other).unpack(0), refused(12, 0));
     assert_eq!(Strip(&other).repeat(u32::MAX), Ok(None));
-    Strip(&[&B[..], &[0]].concat()).check_refused(13, 0);
 }

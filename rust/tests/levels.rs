@@ -1,7 +1,8 @@
 //! The proved level codes against the slow reference, result by result and byte by byte.
 //! The baseline of the speed comparison goes through the same tests.
 
-use gemcotton_tests::parts::{chunks, part_of_chunks};
+use gemcotton_tests::lend::{lend, words};
+use gemcotton_tests::parts::{chunks, least_width, part_of_chunks};
 use gemcotton_tests::random::Random;
 use gemcotton_tests::reference::Kind;
 use gemcotton_tests::{proved, reference, straightforward};
@@ -66,8 +67,7 @@ fn all_codes(values: &[u32]) -> Vec<u8> {
 
 /// Every b, the least width and width 32; the chosen code is one of these.
 fn some_codes(values: &[u32]) -> Vec<u8> {
-    let width = 32 - values.iter().max().map_or(32, |v| v.leading_zeros());
-    let mut codes: Vec<u8> = (65..=72).chain([width as u8, 32]).collect();
+    let mut codes: Vec<u8> = (65..=72).chain([least_width(values), 32]).collect();
     codes.dedup();
     assert!(codes.contains(&reference::choose(values).0));
     codes
@@ -81,6 +81,11 @@ fn some_indices(n: usize, random: &mut Random) -> Vec<usize> {
     indices
 }
 
+/// The values' part in this code, which holds them.
+fn encoded(values: &[u32], code: u8) -> Vec<u8> {
+    reference::encode(values, code).expect("the code holds the values")
+}
+
 // ---- Comparisons ----
 
 fn check_choose(values: &[u32]) {
@@ -92,35 +97,30 @@ fn check_choose(values: &[u32]) {
 /// Encodes by the proved function, which works in a lent list: a chunked code leaves as many
 /// entries 0 as there are values, and nothing else of the list may change.
 fn proved_encode(values: &[u32], code: u8, out: &mut [u8]) -> usize {
-    let list: Vec<u32> = (0..values.len() as u32 + 5).map(|i| !i).collect();
-    let mut work = list.clone();
-    let length = proved::encode(values, code, &mut work, out);
     let used = match reference::kind(code) {
         Kind::Chunked(_) => values.len(),
         _ => 0,
     };
-    assert!(work[..used].iter().all(|&entry| entry == 0), "code {code}");
-    assert!(work[used..] == list[used..], "code {code}");
+    let encode = |work: &mut [u32]| proved::encode(values, code, work, out);
+    let (length, kept) = lend(0, values.len() + 5, words, &vec![0; used], encode);
+    assert!(kept, "code {code}");
     length
 }
 
 /// Encodes into buffers of the exact length and longer, and gives the part. Nothing but the
 /// part may change, in the buffer or around it.
 fn check_encode(values: &[u32], code: u8) -> Vec<u8> {
-    let part = reference::encode(values, code).expect("the code holds the values");
+    let part = encoded(values, code);
     let size = reference::size(values, code).expect("the code holds the values");
     assert_eq!(part.len() as u64, size.div_ceil(8));
     for (before, longer, pattern) in [(0, 0, 0xFF), (3, 1, 0x5A), (8, 13, 0xA5)] {
-        let (start, end) = (before, before + part.len());
-        let memory: Vec<u8> = (0..end + longer + 9)
-            .map(|i| pattern ^ (i % 3) as u8)
-            .collect();
-        let expected = [&memory[..start], &part, &memory[end..]].concat();
+        let room = part.len() + longer;
+        let fill = |i: usize| pattern ^ (i % 3) as u8;
         for encode in [proved_encode, straightforward::encode] {
-            let mut memory = memory.clone();
-            let out = &mut memory[start..end + longer];
-            assert_eq!(encode(values, code, out), part.len(), "code {code}");
-            assert!(memory == expected, "code {code}, {longer} bytes longer");
+            let encode = |out: &mut [u8]| encode(values, code, out);
+            let (length, kept) = lend(before, room, fill, &part, encode);
+            assert_eq!(length, part.len(), "code {code}");
+            assert!(kept, "code {code}, {longer} bytes longer");
         }
     }
     part
@@ -219,7 +219,7 @@ fn fetch_from_short_levels() {
             // Where there are few values, there is time for every code.
             let codes = if n <= 10 { all_codes } else { some_codes };
             for code in codes(&values) {
-                let part = reference::encode(&values, code).expect("the code holds the values");
+                let part = encoded(&values, code);
                 // A part "begins mid-strip", and here more bytes follow it.
                 let (before, after) = (random.bytes(n % 8), random.bytes(1 + n % 19));
                 let strip = [&before[..], &part, &after].concat();
@@ -239,7 +239,7 @@ fn fetch_from_long_levels() {
     for n in LONG {
         for values in long_levels(n, &mut random) {
             for code in some_codes(&values) {
-                let part = reference::encode(&values, code).expect("the code holds the values");
+                let part = encoded(&values, code);
                 let longer = with_more(&part, random.bytes(20));
                 for index in some_indices(n, &mut random) {
                     let value = Some(values[index]);
@@ -263,7 +263,7 @@ fn fetch_from_cut_parts() {
     for n in (1..=20).chain([63, 64, 65]) {
         for values in levels(n, &[1, 9], &mut random) {
             for code in some_codes(&values) {
-                let part = reference::encode(&values, code).expect("the code holds the values");
+                let part = encoded(&values, code);
                 let indices = match n {
                     1..=9 => (0..n).collect(),
                     _ => some_indices(n, &mut random),
@@ -284,7 +284,7 @@ fn fetch_from_cut_long_parts() {
     for n in [1000, 32_768] {
         let values: Vec<u32> = (0..n).map(|_| random.skewed()).collect();
         for code in some_codes(&values) {
-            let part = reference::encode(&values, code).expect("the code holds the values");
+            let part = encoded(&values, code);
             for _ in 0..10 {
                 let length = random.below(part.len());
                 for index in [0, random.below(n), n - 1] {
@@ -301,7 +301,7 @@ fn fetch_from_changed_parts() {
     for n in (1..=12).chain([31, 64, 70, 257]) {
         for values in levels(n, &[2, 14, 32], &mut random) {
             for code in some_codes(&values) {
-                let part = reference::encode(&values, code).expect("the code holds the values");
+                let part = encoded(&values, code);
                 if part.is_empty() {
                     continue;
                 }
@@ -328,7 +328,7 @@ fn fetch_from_parts_with_one_bit_changed() {
     for n in 1..=9 {
         let values: Vec<u32> = (0..n).map(|_| random.skewed()).collect();
         for code in some_codes(&values) {
-            let part = reference::encode(&values, code).expect("the code holds the values");
+            let part = encoded(&values, code);
             for bit in 0..8 * part.len() {
                 let mut changed = part.clone();
                 changed[bit / 8] ^= 0x80 >> (bit % 8);

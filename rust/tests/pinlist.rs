@@ -5,13 +5,14 @@ use std::process::{ChildStdin, Command, Stdio};
 use std::thread;
 use std::time::{Duration, Instant};
 
-use gemcotton_tests::lists::{few_lists, rising};
-use gemcotton_tests::parts::chosen;
+use gemcotton_tests::lists::{few_lists, mirrored, rising};
 use gemcotton_tests::random::Random;
 use gemcotton_tests::reference::strip as reference;
 use gemcotton_tests::reference::strip::{image, Refusal, PINS};
-use gemcotton_tests::reference::tree::{parts_of_values, HEIGHT};
-use gemcotton_tests::strips::{change_bytes, changed_b, faulty, small_strips, A, B};
+use gemcotton_tests::reference::tree::HEIGHT;
+use gemcotton_tests::strips::{
+    change_bytes, example, faulty, packed, past_the_greatest_time, small_strips, zeros, A, B,
+};
 
 /// The program, which is built before the tests.
 const PINLIST: &str = concat!(env!("CARGO_MANIFEST_DIR"), "/../target/bin/pinlist");
@@ -107,7 +108,7 @@ fn short_lists() {
     let mut random = Random(1);
     for n in (1..=12).chain([31, 100, 300]) {
         for times in few_lists(n, 6, &mut random) {
-            let strip = reference::pack(&times, usize::MAX).expect("a list");
+            let strip = packed(&times);
             assert_eq!(expected(&strip), listing(&times));
             check_output(&strip, &listing(&times));
         }
@@ -124,7 +125,7 @@ fn input_in_pieces() {
         }
     }
     let times = rising(2000, || 3);
-    let strip = reference::pack(&times, usize::MAX).expect("a list");
+    let strip = packed(&times);
     let found = output_in_pieces(&strip, 100, Duration::ZERO);
     assert!(found == listing(&times));
 }
@@ -134,26 +135,23 @@ fn input_in_pieces() {
 #[test]
 fn examples_of_refusals() {
     check_line(&[], "refused 5 0");
-    check_line(&A[..3], "refused 5 0");
+    check_line(&example(5), "refused 5 0");
     check_line(&A[..21], "refused 5 0");
-    check_line(&changed_b(2, 0x4F), "refused 6 0");
-    check_line(&changed_b(4, 2), "refused 7 0");
-    check_line(&changed_b(6, 0), "refused 1 0");
-    check_line(&changed_b(7, 33), "refused 8 1");
-    check_line(&[&B[..], &[0]].concat(), "refused 13 0");
-    check_line(&changed_b(7, 1), "refused 9 1");
-    let two = image(2, &parts_of_values(&[0, 1], chosen));
-    check_line(&two, "refused 10 2");
-    let falls = image(5, &parts_of_values(&[400, 150, 600, 150, 151], chosen));
-    check_line(&falls, "refused 11 3");
-    let other = image(1, &[(65, vec![0])]);
-    check_line(&other, "refused 12 0");
+    check_line(&example(6), "refused 6 0");
+    check_line(&example(7), "refused 7 0");
+    check_line(&example(1), "refused 1 0");
+    check_line(&example(8), "refused 8 1");
+    check_line(&example(13), "refused 13 0");
+    check_line(&example(9), "refused 9 1");
+    check_line(&example(10), "refused 10 2");
+    check_line(&example(11), "refused 11 3");
+    check_line(&example(12), "refused 12 0");
 }
 
 #[test]
 fn refusals_that_carry_much() {
     // In width 1 the reference is quick, and so many pins fit.
-    let zeros = parts_of_values(&[0; PINS], |_, _| 1);
+    let zeros = zeros();
     let mut levels = zeros.clone();
     levels[HEIGHT - 1].0 = 33;
     check_line(&image(PINS, &levels), "refused 8 16");
@@ -161,11 +159,8 @@ fn refusals_that_carry_much() {
     let mut levels = zeros.clone();
     levels[HEIGHT - 1].1.pop();
     check_line(&image(PINS, &levels), "refused 9 65528");
-    // Under the greatest time the last node stores 1.
-    let mut levels = zeros.clone();
-    levels[0] = (32, vec![0xFF; 4]);
-    *levels[HEIGHT - 1].1.last_mut().expect("a part") |= 1;
-    check_line(&image(PINS, &levels), "refused 10 65535");
+    // The last node passes the greatest time.
+    check_line(&past_the_greatest_time(HEIGHT), "refused 10 65535");
     // The last right child whose parent is a left one stores 1 over their common time.
     let mut levels = zeros.clone();
     *levels[HEIGHT - 1].1.last_mut().expect("a part") |= 1 << 2;
@@ -197,7 +192,7 @@ fn list_of_bytes(length: usize, random: &mut Random) -> (Vec<u32>, Vec<u8>) {
     let counts: Vec<usize> = (1..=PINS).collect();
     loop {
         let times = rising(PINS, || random.of_width(9));
-        let strip = |n: usize| reference::pack(&times[..n], usize::MAX).expect("a list");
+        let strip = |n: usize| packed(&times[..n]);
         // Each pin takes a byte or two, so that a longer list has a longer strip, nearly always.
         let near = counts.partition_point(|&n| strip(n).len() + 40 < length);
         for &n in counts[near..].iter().take(100) {
@@ -252,9 +247,9 @@ fn more_bytes_than_it_takes() {
 fn as_many_pins_as_there_can_be() {
     let mut random = Random(5);
     let small = rising(PINS, || random.of_width(2));
-    let great: Vec<u32> = small.iter().rev().map(|&time| !time).collect();
+    let great = mirrored(&small);
     for times in [vec![0; PINS], vec![u32::MAX; PINS], small, great] {
-        let strip = reference::pack(&times, usize::MAX).expect("a list");
+        let strip = packed(&times);
         assert!(strip.len() <= MOST);
         let start = Instant::now();
         check_output(&strip, &listing(&times));

@@ -3,10 +3,11 @@
 
 use std::fmt::Debug;
 
+use gemcotton_tests::lend::lend;
 use gemcotton_tests::lists::{
     around_powers, falling_lists, few_lists, few_pins, rising, some_positions, targets, Answers,
 };
-use gemcotton_tests::parts::{any_code, chains, chosen, chunks, part_of_chunks};
+use gemcotton_tests::parts::{any_code, chains, chunks, part_of_chunks};
 use gemcotton_tests::random::Random;
 use gemcotton_tests::reference::strip as reference;
 use gemcotton_tests::reference::strip::{image, refused, Refusal, PINS};
@@ -14,8 +15,9 @@ use gemcotton_tests::reference::tree::{
     height, nodes_of_level, parts_of_values, rank, root_place, stored, values_of_level, HEIGHT,
 };
 use gemcotton_tests::strips::{
-    changed_b, changes_of_bytes, changes_of_one_byte, cuts_and_bytes_added, damaged_levels, faulty,
-    pins, random_parts, random_strips, surrounded, wrapping_sums, A, B, TIMES_A,
+    changes_of_bytes, changes_of_one_byte, damaged_long_lists, example, front, meet,
+    past_the_greatest_time, pins, random_parts, random_strips, refused_at_opening, strip_of_values,
+    strips_of_no_list, surrounded, wasteful, zeros, A, B, TIMES_A,
 };
 use gemcotton_tests::tally::Tally;
 use gemcotton_tests::{proved, straightforward};
@@ -56,23 +58,17 @@ const COMPARED: [Calls; 2] = [
 /// Packs into this much room, with other bytes around it. Nothing but the image may change.
 /// Gives the reference's result, which the others share.
 fn check_pack(times: &[u32], room: usize) -> Result<Vec<u8>, Refusal> {
-    const BEFORE: usize = 5;
     let expected = reference::pack(times, room);
-    let memory: Vec<u8> = (0..BEFORE + room + 9).map(|i| 0xA5 ^ i as u8).collect();
-    let mut after = memory.clone();
-    if let Ok(image) = &expected {
-        after[BEFORE..BEFORE + image.len()].copy_from_slice(image);
-    }
+    let image = expected.as_deref().map_err(|&refusal| refusal);
     for calls in &COMPARED {
         let place = || {
             let (n, front) = (times.len(), &times[..times.len().min(40)]);
             format!("{}: room {room}, {n} times: {front:?}", calls.name)
         };
-        let mut memory = memory.clone();
-        let found = (calls.pack)(times, &mut memory[BEFORE..BEFORE + room]);
-        let length = expected.as_ref().map(Vec::len).map_err(|&refusal| refusal);
-        assert_eq!(found, length, "{}", place());
-        assert!(memory == after, "{}", place());
+        let pack = |out: &mut [u8]| (calls.pack)(times, out);
+        let (found, kept) = lend(5, room, |i| 0xA5 ^ i as u8, image.unwrap_or(&[]), pack);
+        assert_eq!(found, image.map(<[u8]>::len), "{}", place());
+        assert!(kept, "{}", place());
     }
     expected
 }
@@ -120,8 +116,8 @@ impl Strip<'_> {
     ) {
         for calls in &COMPARED {
             let found = call(calls)(self.0, input);
-            let (name, s) = (calls.name, self.0);
-            assert_eq!(found, expected, "{name}: {input:?} in {s:02X?}");
+            let place = || format!("{}: {input:?} in {}", calls.name, front(self.0));
+            assert_eq!(found, expected, "{}", place());
         }
     }
 
@@ -321,14 +317,9 @@ fn wasteful_strips() {
     for n in 1..=60 {
         let count = if n <= 20 { usize::MAX } else { 1 };
         for times in few_lists(n, count, &mut random) {
-            let mut levels = parts_of_values(&stored(&times), any_code(&mut random));
-            check_list(&times, &image(n, &levels), &mut random);
-            // Bytes after the values, which no fetch reads.
-            for (_, part) in &mut levels {
-                let more = random.below(4);
-                part.extend(random.bytes(more));
-            }
-            check_list(&times, &image(n, &levels), &mut random);
+            let strip = strip_of_values(&stored(&times), any_code(&mut random));
+            check_list(&times, &strip, &mut random);
+            check_list(&times, &wasteful(&times, 0, &mut random), &mut random);
         }
     }
 }
@@ -384,30 +375,16 @@ fn chunks_made_by_hand() {
 
 #[test]
 fn values_of_no_list() {
-    let mut random = Random(8);
-    let mut tally = Tally::default();
-    let ends = [0, 1, 2, (1 << 31) - 1, 1 << 31, u32::MAX - 1, u32::MAX];
-    for n in 1..=70 {
-        for round in 0..12 {
-            let mut values: Vec<u32> = (0..n).map(|_| random.skewed()).collect();
-            match round % 3 {
-                0 => values.fill_with(|| ends[random.below(ends.len())]),
-                1 => values[0] = !values[0],
-                _ => {}
-            }
-            let levels = parts_of_values(&values, any_code(&mut random));
-            check_damaged(&image(n, &levels), &mut tally, &mut random);
-        }
-    }
-    tally.require(&[0, 10, 14], 1000);
+    let tally = meet(&mut Random(8), strips_of_no_list, check_damaged);
+    tally.require(&[0, 10, 14], 3750);
     tally.require_none(9);
 }
 
 #[test]
 fn refusals_at_every_level() {
-    let zeros = parts_of_values(&[0; PINS], |_, _| 1);
+    let zeros = zeros();
     for level in 1..=HEIGHT {
-        let (first, last) = (1 << (level - 1), (1 << level) - 1);
+        let (first, last) = nodes_of_level(PINS, level).into_inner();
         // No part: 9.
         let mut levels = zeros.clone();
         levels[level - 1].1.clear();
@@ -425,12 +402,9 @@ fn refusals_at_every_level() {
             1 => assert_eq!(Strip(&strip).access(0), Ok((1, HEIGHT))),
             _ => assert_eq!(Strip(&strip).access(0), refused(10, first)),
         }
-        // The level's last node stores 1 under the greatest time.
-        let mut levels = zeros.clone();
-        levels[0] = (32, vec![0xFF; 4]);
+        // The level's last node passes the greatest time: 10.
         if level > 1 {
-            *levels[level - 1].1.last_mut().expect("a part") |= 1 << (8 - first.min(8));
-            let strip = image(PINS, &levels);
+            let strip = past_the_greatest_time(level);
             assert_eq!(Strip(&strip).access(PINS - 1), refused(10, last));
         }
         // No code, at this level and at the later ones: 8.
@@ -448,68 +422,40 @@ fn refusals_at_every_level() {
 
 #[test]
 fn every_change_of_one_byte() {
-    let mut tally = Tally::default();
-    changes_of_one_byte(&mut Random(9), |strip, random| {
-        check_damaged(strip, &mut tally, random);
-    });
+    let tally = meet(&mut Random(9), changes_of_one_byte, check_damaged);
     tally.require(&[0, 5, 6, 7, 8, 9, 10, 13, 14], 1000);
     tally.require(&[1], 10);
 }
 
 #[test]
-fn every_cut_and_bytes_added() {
-    cuts_and_bytes_added(&mut Random(10), |strip, number| {
-        Strip(strip).check_refused(number, 0);
-    });
-}
-
-#[test]
 fn changed_bytes() {
-    let mut tally = Tally::default();
-    changes_of_bytes(&mut Random(11), |strip, random| {
-        check_damaged(strip, &mut tally, random);
-    });
+    let tally = meet(&mut Random(11), changes_of_bytes, check_damaged);
     tally.require(&[0, 5, 6, 7, 8, 9, 10, 13, 14], 500);
 }
 
 #[test]
 fn parts_of_random_bytes() {
-    let mut tally = Tally::default();
-    random_parts(&mut Random(12), |strip, random| {
-        check_damaged(strip, &mut tally, random);
-    });
+    let tally = meet(&mut Random(12), random_parts, check_damaged);
     tally.require(&[0, 9, 10, 14], 1000);
 }
 
 #[test]
 fn damage_in_long_lists() {
-    let mut tally = Tally::default();
-    let counts = [1000, 6144, 40_000, PINS];
-    damaged_levels(&counts, chosen, &mut Random(13), |strip, random| {
-        check_damaged(strip, &mut tally, random);
-    });
+    let tally = meet(&mut Random(13), damaged_long_lists, check_damaged);
     tally.require(&[0, 9, 10, 14], 50);
 }
 
 #[test]
-fn lengths_whose_sum_would_wrap() {
-    wrapping_sums(&mut Random(14), |strip| Strip(strip).check_refused(13, 0));
-}
-
-#[test]
 fn random_headers() {
-    let mut tally = Tally::default();
-    random_strips(&mut Random(15), |strip, random| {
-        check_damaged(strip, &mut tally, random);
-    });
+    let tally = meet(&mut Random(15), random_strips, check_damaged);
     tally.require(&[0, 1, 5, 6, 7, 8, 9, 10, 13, 14], 1000);
 }
 
 #[test]
-fn order_of_refusals_at_opening() {
-    for (strip, (number, carried)) in faulty() {
-        Strip(&strip).check_refused(number, carried);
-    }
+fn refusals_at_opening() {
+    refused_at_opening(&mut Random(10), |strip, number, carried| {
+        Strip(strip).check_refused(number, carried);
+    });
 }
 
 // ---- Marked cases and examples ----
@@ -541,32 +487,22 @@ fn marked_cases() {
 #[test]
 fn examples_of_refusals() {
     assert_eq!(check_pack(&[], 300), refused(1, 0));
-    Strip(&changed_b(6, 0)).check_refused(1, 0);
     assert_eq!(check_pack(&[0; 65_536], ample(65_536)), refused(2, 0));
     assert_eq!(check_pack(&[7, 6], 99), refused(3, 1));
     assert_eq!(check_pack(&[0], 11), refused(4, 12));
-    Strip(&[0x50, 0x49, 0x4E]).check_refused(5, 0);
-    Strip(&changed_b(2, 0x4F)).check_refused(6, 0);
-    Strip(&changed_b(4, 2)).check_refused(7, 0);
-    Strip(&changed_b(7, 33)).check_refused(8, 1);
-    // "n = 1, code 1, length 0: 1".
-    let one = changed_b(7, 1);
+    let one = example(9);
     assert_eq!(Strip(&one).access(0), refused(9, 1));
     assert_eq!(Strip(&one).search(0), refused(9, 1));
     assert_eq!(Strip(&one).access(1), refused(14, 0));
     assert_eq!(Strip(&one).up_to(u32::MAX), Ok((1, 0)));
-    // "Root 0, node 2 stores 1: 2".
-    let two = image(2, &parts_of_values(&[0, 1], chosen));
+    let two = example(10);
     assert_eq!(Strip(&two).access(0), refused(10, 2));
     assert_eq!(Strip(&two).search(0), refused(10, 2));
     assert_eq!(Strip(&two).up_to(0), Ok((2, 1)));
-    // "A, node 5 storing 151", for 11, which these calls do not look for.
-    let falls = image(5, &parts_of_values(&[400, 150, 600, 150, 151], chosen));
+    // These calls look for neither 11 nor 12.
+    let falls = example(11);
     assert_eq!(Strip(&falls).access(2), Ok((401, 3)));
     assert_eq!(Strip(&falls).access(3), Ok((400, 1)));
-    // "N = 1, code 65, length 1, byte 00", for 12, which these calls do not look for.
-    let other = image(1, &[(65, vec![0])]);
-    assert_eq!(Strip(&other).access(0), Ok((0, 1)));
-    Strip(&[&B[..], &[0]].concat()).check_refused(13, 0);
+    assert_eq!(Strip(&example(12)).access(0), Ok((0, 1)));
     assert_eq!(Strip(&A).access(5), refused(14, 0));
 }

@@ -1,12 +1,12 @@
 //! The proved sweep against the slow reference, answer by answer and entry by entry. The baseline
 //! of the speed comparison goes through the same tests.
 
-use gemcotton_tests::lend::lend;
+use gemcotton_tests::lend::{lend, words};
 use gemcotton_tests::lists::{
     around_powers, falling_lists, few_lists, few_pins, lists, rising, some_positions, sorted,
     sweep_targets, Answers, SORTS,
 };
-use gemcotton_tests::parts::{any_code, chosen};
+use gemcotton_tests::parts::chosen;
 use gemcotton_tests::random::Random;
 use gemcotton_tests::reference::strip as reference;
 use gemcotton_tests::reference::strip::{image, refused, Refusal, PINS};
@@ -14,9 +14,9 @@ use gemcotton_tests::reference::tree::{
     height, nodes_of_level, parts_of_values, rank, stored, HEIGHT,
 };
 use gemcotton_tests::strips::{
-    changed_b, changes_of_bytes, changes_of_one_byte, cuts_and_bytes_added, damaged_levels, faulty,
-    most_stored, parts_cut_short, pins, random_parts, random_strips, surrounded, with_number,
-    with_value, wrapping_sums, A, B, TIMES_A,
+    changes_of_bytes, changes_of_one_byte, damaged_long_lists, example, front, meet, packed,
+    parts_cut_short, pins, random_parts, random_strips, refused_at, refused_at_opening,
+    strip_of_values, surrounded, unordered_strips, wasteful, A, B, TIMES_A,
 };
 use gemcotton_tests::tally::Tally;
 use gemcotton_tests::{proved, straightforward};
@@ -69,14 +69,14 @@ impl Strip<'_> {
     fn expect(self, answers: usize, targets: &[u32], (written, outcome): &Swept) {
         let written: Vec<u32> = written.iter().map(|&position| position as u32).collect();
         for (name, sweep) in COMPARED {
-            // Of what is long the front is told.
+            // Of many targets the front is told.
             let place = || {
-                let (count, length) = (targets.len(), self.0.len());
-                let (targets, strip) = (&targets[..count.min(100)], &self.0[..length.min(300)]);
-                let asked = format!("{answers} answers for {count} targets {targets:?}");
-                format!("{name}: {asked} in {length} bytes: {strip:02X?}")
+                let (count, few) = (targets.len(), &targets[..targets.len().min(100)]);
+                let asked = format!("{answers} answers for {count} targets {few:?}");
+                format!("{name}: {asked} in {}", front(self.0))
             };
-            let (found, kept) = lend(answers, &written, |out| sweep(self.0, targets, out));
+            let sweep = |out: &mut [u32]| sweep(self.0, targets, out);
+            let (found, kept) = lend(3, answers, words, &written, sweep);
             assert_eq!(found, *outcome, "{}", place());
             assert!(kept, "{}", place());
         }
@@ -208,7 +208,7 @@ fn short_lists() {
     let mut round = 0;
     for n in 1..=64 {
         for times in lists(n, &mut random) {
-            let strip = reference::pack(&times, usize::MAX).expect("a list");
+            let strip = packed(&times);
             for (i, count) in COUNTS.into_iter().enumerate() {
                 let targets = sweep_targets(&times, count, (round + i) % SORTS, &mut random);
                 check_list(&times, &strip, &targets);
@@ -226,7 +226,7 @@ fn sorts_of_targets() {
     let mut met = [0; 4];
     for n in [1, 2, 3, 5, 12, 40, 300] {
         for times in lists(n, &mut random) {
-            let strip = reference::pack(&times, usize::MAX).expect("a list");
+            let strip = packed(&times);
             for sort in 0..SORTS {
                 for count in [1, 2, 3, 10] {
                     let targets = sweep_targets(&times, count, sort, &mut random);
@@ -252,7 +252,7 @@ fn long_lists() {
     for n in around_powers(PINS).into_iter().filter(|&n| n > 64) {
         let many = if n <= 5000 { 2000 } else { 100 };
         for times in few_lists(n, 2, &mut random) {
-            let strip = reference::pack(&times, usize::MAX).expect("a list");
+            let strip = packed(&times);
             for count in [1 + random.below(3), 10, many] {
                 let sort = random.below(SORTS);
                 let targets = sweep_targets(&times, count, sort, &mut random);
@@ -268,7 +268,7 @@ fn longest_lists() {
     let mut all = lists(PINS, &mut random);
     all.push(rising(PINS, || random.skewed() & random.of_width(17)));
     for (i, times) in all.iter().enumerate() {
-        let strip = reference::pack(times, usize::MAX).expect("a list");
+        let strip = packed(times);
         for (count, sort) in [(2, 0), (2000, SORTS - 1), (2000, i % SORTS)] {
             let targets = sweep_targets(times, count, sort, &mut random);
             check_list(times, &strip, &targets);
@@ -282,7 +282,7 @@ fn every_time() {
     let mut random = Random(5);
     for n in (1..=64).chain([1000, 3000, PINS]) {
         let times = rising(n, || 1 + random.of_width(9));
-        let strip = reference::pack(&times, usize::MAX).expect("a list");
+        let strip = packed(&times);
         let positions: Vec<usize> = (0..n).collect();
         assert_eq!(Answers::new(&times).sweep(&times), (positions, n));
         check_list(&times, &strip, &times);
@@ -308,8 +308,7 @@ fn nothing_lent() {
 
 /// Strips that are opened. The last two can then be refused with 9 and 10.
 fn opened() -> [Vec<u8>; 4] {
-    let time = image(2, &parts_of_values(&[0, 1], chosen));
-    [A.to_vec(), B.to_vec(), changed_b(7, 1).to_vec(), time]
+    [A.to_vec(), B.to_vec(), example(9), example(10)]
 }
 
 #[test]
@@ -354,20 +353,8 @@ fn targets_that_fall() {
 
 // ---- 9 and 10 ----
 
-/// Strips of the list that are refused at node v and nowhere above it, and the number: with 9, and
-/// with 10 where a time there can pass the ends.
-fn refused_at(times: &[u32], v: usize, random: &mut Random) -> Vec<(Vec<u8>, usize)> {
-    let number = (1 << 32) << random.below(9);
-    let (b, zeros) = (1 + random.of_width(3), random.below(3));
-    let mut strips = vec![(with_number(times, v, number, b, zeros, random), 9)];
-    if let Some(more) = most_stored(times, v).checked_add(1) {
-        strips.push((with_value(times, v, more, random), 10));
-    }
-    strips
-}
-
-/// Sweeps those strips. The list alone tells what must be found: the first target whose path has
-/// node v is refused.
+/// Sweeps strips of the list that are refused at node v. The list alone tells what must be found:
+/// the first target whose path has the node is refused.
 fn check_refused_at(times: &[u32], v: usize, targets: &[u32], met: &mut Met, random: &mut Random) {
     let answers = Answers::new(times);
     let has_node = |&t: &u32| answers.path(t).any(|node| node == v);
@@ -422,28 +409,22 @@ fn refusals_at_every_level() {
 
 #[test]
 fn times_out_of_order() {
-    let mut random = Random(10);
+    let mut sort = 0;
     // Positions that a search does not give.
     let mut others = 0;
-    for n in few_pins() {
-        for round in 0..60 {
-            // They stay far from the ends.
-            let width = 1 + round % 20;
-            let mut values: Vec<u32> = (0..n).map(|_| random.of_width(width)).collect();
-            values[0] = 1 << 31;
-            let strip = image(n, &parts_of_values(&values, any_code(&mut random)));
-            let times = some_times(&strip, &mut random);
-            for count in [2, 3, 10, 100] {
-                let targets = sweep_targets(&times, count, round as usize % SORTS, &mut random);
-                let (positions, outcome) = Strip(&strip).sweep(&targets);
-                assert!(outcome.is_ok());
-                for (&t, &position) in targets.iter().zip(&positions) {
-                    let searched = straightforward::strip::search(&strip, t);
-                    others += usize::from(searched.map(|found| found.0) != Ok(position));
-                }
+    unordered_strips(&mut Random(10), &mut |strip, random| {
+        let times = some_times(strip, random);
+        for count in [2, 3, 10, 100] {
+            let targets = sweep_targets(&times, count, sort, random);
+            let (positions, outcome) = Strip(strip).sweep(&targets);
+            assert!(outcome.is_ok());
+            for (&t, &position) in targets.iter().zip(&positions) {
+                let searched = straightforward::strip::search(strip, t);
+                others += usize::from(searched.map(|found| found.0) != Ok(position));
             }
         }
-    }
+        sort = (sort + 1) % SORTS;
+    });
     assert!(others >= 1000, "{others}");
 }
 
@@ -454,16 +435,11 @@ fn wasteful_strips() {
     let mut random = Random(11);
     for n in 1..=60 {
         for times in few_lists(n, 3, &mut random) {
-            let mut levels = parts_of_values(&stored(&times), any_code(&mut random));
-            // Bytes after the values, which no fetch reads.
-            for (_, part) in &mut levels {
-                let more = random.below(4);
-                part.extend(random.bytes(more));
-            }
+            let strip = wasteful(&times, 0, &mut random);
             for count in [1, 3, 10, 100] {
                 let sort = random.below(SORTS);
                 let targets = sweep_targets(&times, count, sort, &mut random);
-                check_list(&times, &image(n, &levels), &targets);
+                check_list(&times, &strip, &targets);
             }
         }
     }
@@ -473,10 +449,7 @@ fn wasteful_strips() {
 
 #[test]
 fn every_change_of_one_byte() {
-    let mut met = Met::default();
-    changes_of_one_byte(&mut Random(12), |strip, random| {
-        check_damaged(strip, &mut met, random);
-    });
+    let met = meet(&mut Random(12), changes_of_one_byte, check_damaged);
     met.require(500);
     met.nothing.require(&[5, 6, 7, 8, 13, 15, 16], 1000);
     met.nothing.require(&[1], 50);
@@ -484,18 +457,8 @@ fn every_change_of_one_byte() {
 }
 
 #[test]
-fn every_cut_and_bytes_added() {
-    cuts_and_bytes_added(&mut Random(13), |strip, number| {
-        Strip(strip).check_refused(number, 0);
-    });
-}
-
-#[test]
 fn parts_of_levels_cut_short() {
-    let mut met = Met::default();
-    parts_cut_short(&mut Random(14), |strip, random| {
-        check_damaged(strip, &mut met, random);
-    });
+    let met = meet(&mut Random(14), parts_cut_short, check_damaged);
     met.nothing.require(&[9], 500);
     met.answers.require(&[0, 9], 500);
     // A part cut short gives no other value than the whole one.
@@ -505,45 +468,27 @@ fn parts_of_levels_cut_short() {
 
 #[test]
 fn changed_bytes() {
-    let mut met = Met::default();
-    changes_of_bytes(&mut Random(15), |strip, random| {
-        check_damaged(strip, &mut met, random);
-    });
+    let met = meet(&mut Random(15), changes_of_bytes, check_damaged);
     met.require(20);
     met.nothing.require(&[5, 6, 7, 8, 13, 15, 16], 200);
 }
 
 #[test]
 fn parts_of_random_bytes() {
-    let mut met = Met::default();
-    random_parts(&mut Random(16), |strip, random| {
-        check_damaged(strip, &mut met, random);
-    });
+    let met = meet(&mut Random(16), random_parts, check_damaged);
     met.require(50);
     met.nothing.require(&[15, 16], 200);
 }
 
 #[test]
 fn damage_in_long_lists() {
-    let mut met = Met::default();
-    let counts = [1000, 6144, 40_000, PINS];
-    damaged_levels(&counts, chosen, &mut Random(17), |strip, random| {
-        check_damaged(strip, &mut met, random);
-    });
+    let met = meet(&mut Random(17), damaged_long_lists, check_damaged);
     met.answers.require(&[0, 9], 3);
 }
 
 #[test]
-fn lengths_whose_sum_would_wrap() {
-    wrapping_sums(&mut Random(18), |strip| Strip(strip).check_refused(13, 0));
-}
-
-#[test]
 fn random_headers() {
-    let mut met = Met::default();
-    random_strips(&mut Random(19), |strip, random| {
-        check_damaged(strip, &mut met, random);
-    });
+    let met = meet(&mut Random(19), random_strips, check_damaged);
     met.nothing
         .require(&[1, 5, 6, 7, 8, 9, 10, 13, 15, 16], 500);
     met.answers.require(&[0, 9], 50);
@@ -551,10 +496,10 @@ fn random_headers() {
 }
 
 #[test]
-fn order_of_refusals_at_opening() {
-    for (strip, (number, carried)) in faulty() {
-        Strip(&strip).check_refused(number, carried);
-    }
+fn refusals_at_opening() {
+    refused_at_opening(&mut Random(13), |strip, number, carried| {
+        Strip(strip).check_refused(number, carried);
+    });
 }
 
 // ---- Marked cases and examples ----
@@ -578,20 +523,12 @@ fn marked_cases() {
 
 #[test]
 fn examples_of_refusals() {
-    Strip(&changed_b(6, 0)).check_refused(1, 0);
-    Strip(&[0x50, 0x49, 0x4E]).check_refused(5, 0);
-    Strip(&changed_b(2, 0x4F)).check_refused(6, 0);
-    Strip(&changed_b(4, 2)).check_refused(7, 0);
-    Strip(&changed_b(7, 33)).check_refused(8, 1);
-    // "N = 1, code 1, length 0: 1".
-    let one = changed_b(7, 1);
+    let one = example(9);
     assert_eq!(Strip(&one).sweep(&[0, 1]), untouched(9, 1));
     assert_eq!(Strip(&one).sweep(&[]), (vec![], Ok(0)));
-    // "Root 0, node 2 stores 1: 2".
-    let two = image(2, &parts_of_values(&[0, 1], chosen));
+    let two = example(10);
     assert_eq!(Strip(&two).sweep(&[0, 1]), untouched(10, 2));
     assert_eq!(Strip(&two).sweep(&[1, 2]), (vec![2, 2], Ok(1)));
-    Strip(&[&B[..], &[0]].concat()).check_refused(13, 0);
     assert_eq!(Strip(&A).sweep_into(3, &[8, 9]), untouched(15, 0));
     assert_eq!(Strip(&A).sweep_into(2, &[7, 8, 9]), untouched(15, 0));
     assert_eq!(Strip(&A).sweep(&[9, 8]), untouched(16, 1));
@@ -601,7 +538,7 @@ fn examples_of_refusals() {
 /// A with node 3 refused, which the third target of case 6 comes to.
 #[test]
 fn refusals_midway() {
-    let times = image(5, &parts_of_values(&[400, 150, u32::MAX, 150, 0], chosen));
+    let times = strip_of_values(&[400, 150, u32::MAX, 150, 0], chosen);
     // Level 2 ends in node 3's bits.
     let mut levels = parts_of_values(&stored(&TIMES_A), chosen);
     levels[1].1.pop();
@@ -617,7 +554,7 @@ fn refusals_midway() {
 /// target that a search leaves the root by its right side for.
 #[test]
 fn sweep_that_differs_from_searches() {
-    let falls = image(5, &parts_of_values(&[400, 150, 600, 150, 151], chosen));
+    let falls = example(11);
     assert_eq!(Strip(&falls).sweep(&[251, 401]), (vec![2, 2], Ok(3)));
     assert_eq!(reference::search(&falls, 401), Ok((4, 2)));
     assert_eq!(Strip(&falls).sweep(&[251, 402]), (vec![2, 4], Ok(4)));

@@ -1,18 +1,22 @@
 //! The proved tree against the slow reference, result by result and entry by entry. The
 //! baseline of the speed comparison goes through the same tests.
 
+use std::fmt::Debug;
 use std::ops::Range;
 
+use gemcotton_tests::lend::{lend, words};
 use gemcotton_tests::lists::{
-    around_powers, few_lists, few_pins, lists, rising, some_positions, sorted, targets, Answers,
+    any_values, around_powers, few_lists, few_pins, lists, mirrored, rising, some_positions,
+    sorted, targets, Answers,
 };
 use gemcotton_tests::parts::{any_code, chosen};
 use gemcotton_tests::proved::tree as proved;
 use gemcotton_tests::random::Random;
 use gemcotton_tests::reference::strip::PINS;
 use gemcotton_tests::reference::tree as reference;
-use gemcotton_tests::reference::tree::{Levels, Refusal, HEIGHT};
+use gemcotton_tests::reference::tree::{nodes_of_level, Levels, Refusal, HEIGHT};
 use gemcotton_tests::straightforward::tree as straightforward;
+use gemcotton_tests::strips::{front, TIMES_A};
 use gemcotton_tests::tally::Tally;
 
 // ---- Height, root place, rank ----
@@ -99,13 +103,11 @@ fn rank_in_huge_lists() {
 fn check_construct(times: &[u32]) {
     let values = reference::stored(times);
     for (before, longer) in [(0, 0), (1, 1), (3, 70)] {
-        let (start, end) = (before, before + times.len());
-        let memory: Vec<u32> = (0..end + longer + 5).map(|i| !(i as u32)).collect();
-        let expected = [&memory[..start], &values, &memory[end..]].concat();
+        let room = times.len() + longer;
         for construct in [proved::construct, straightforward::store] {
-            let mut memory = memory.clone();
-            construct(&mut memory[start..end + longer], times);
-            assert!(memory == expected, "{} times, {longer} longer", times.len());
+            let construct = |out: &mut [u32]| construct(out, times);
+            let ((), kept) = lend(before, room, words, &values, construct);
+            assert!(kept, "{} times, {longer} longer", times.len());
         }
     }
 }
@@ -131,6 +133,9 @@ fn construct_long_lists() {
 }
 
 // ---- Trees in bytes ----
+
+/// An answer with the nodes opened, or a refusal.
+type Found<T> = Result<(T, usize), Refusal>;
 
 #[derive(Clone)]
 struct Tree {
@@ -187,28 +192,39 @@ impl Tree {
         }
     }
 
-    /// The reference's result, which the others share.
-    fn check_access(&self, i: usize) -> Result<(u32, usize), Refusal> {
-        let Tree { s, levels } = self;
-        let expected = reference::access(s, levels, i);
-        let place = || format!("position {i} in {levels:?}, {s:02X?}");
-        let found = proved::Tree::new(s, levels).access(i);
-        assert_eq!(found, expected, "{}", place());
-        let found = straightforward::access(s, levels, i);
-        assert_eq!(found, expected, "baseline: {}", place());
+    /// The reference's result, which the others share. So with search.
+    fn check_access(&self, i: usize) -> Found<u32> {
+        let expected = reference::access(&self.s, &self.levels, i);
+        self.expect_access(i, expected);
         expected
     }
 
-    /// The reference's result, which the others share.
-    fn check_search(&self, t: u32) -> Result<(usize, usize), Refusal> {
-        let Tree { s, levels } = self;
-        let expected = reference::search(s, levels, t);
-        let place = || format!("target {t} in {levels:?}, {s:02X?}");
-        let found = proved::Tree::new(s, levels).search(t);
-        assert_eq!(found, expected, "{}", place());
-        let found = straightforward::search(s, levels, t);
-        assert_eq!(found, expected, "baseline: {}", place());
+    fn check_search(&self, t: u32) -> Found<usize> {
+        let expected = reference::search(&self.s, &self.levels, t);
+        self.expect_search(t, expected);
         expected
+    }
+
+    /// The proved tree and the baseline must find this. So with search.
+    fn expect_access(&self, i: usize, expected: Found<u32>) {
+        let Tree { s, levels } = self;
+        let found = proved::Tree::new(s, levels).access(i);
+        assert_eq!(found, expected, "{}", self.place(("access", i)));
+        let found = straightforward::access(s, levels, i);
+        assert_eq!(found, expected, "baseline: {}", self.place(("access", i)));
+    }
+
+    fn expect_search(&self, t: u32, expected: Found<usize>) {
+        let Tree { s, levels } = self;
+        let found = proved::Tree::new(s, levels).search(t);
+        assert_eq!(found, expected, "{}", self.place(("search", t)));
+        let found = straightforward::search(s, levels, t);
+        assert_eq!(found, expected, "baseline: {}", self.place(("search", t)));
+    }
+
+    /// Where a comparison failed.
+    fn place(&self, call: impl Debug) -> String {
+        format!("{call:?} in {:?}, {}", self.levels, front(&self.s))
     }
 }
 
@@ -246,20 +262,12 @@ fn access_and_search_in_short_lists() {
 fn check_long_list(times: &[u32], mut tree: Tree, random: &mut Random) {
     tree.surround(random);
     let answers = Answers::new(times);
-    let Tree { s, levels } = &tree;
-    let proved = proved::Tree::new(s, levels);
     for i in 0..times.len() {
-        let expected = Ok(answers.access(i));
-        assert_eq!(proved.access(i), expected, "position {i}");
-        let found = straightforward::access(s, levels, i);
-        assert_eq!(found, expected, "baseline: position {i}");
+        tree.expect_access(i, Ok(answers.access(i)));
     }
     let some: Vec<u32> = (0..500).map(|_| times[random.below(times.len())]).collect();
     for t in targets(&some, random) {
-        let expected = Ok(answers.search(t));
-        assert_eq!(proved.search(t), expected, "target {t}");
-        let found = straightforward::search(s, levels, t);
-        assert_eq!(found, expected, "baseline: target {t}");
+        tree.expect_search(t, Ok(answers.search(t)));
     }
     for t in some.into_iter().take(5) {
         assert_eq!(tree.check_search(t), Ok(answers.search(t)), "target {t}");
@@ -333,6 +341,25 @@ fn trees(n: usize, random: &mut Random) -> Vec<Tree> {
     trees
 }
 
+/// Damages trees of all sorts, each so in so many rounds, and compares. Gives what is met.
+fn damaged(
+    mut random: Random,
+    rounds: usize,
+    mut damage: impl FnMut(&mut Tree, usize, &mut Random),
+) -> Tally {
+    let mut tally = Tally::default();
+    for n in few_pins() {
+        for tree in trees(n, &mut random) {
+            for round in 0..rounds {
+                let mut tree = tree.clone();
+                damage(&mut tree, round, &mut random);
+                check_damaged(&tree, &mut tally, &mut random);
+            }
+        }
+    }
+    tally
+}
+
 #[test]
 fn every_change_of_one_byte() {
     let mut random = Random(8);
@@ -340,11 +367,10 @@ fn every_change_of_one_byte() {
     for n in 1..=20 {
         // Small gaps, for few bytes.
         let low = rising(n, || random.of_width(5));
-        let high: Vec<u32> = low.iter().rev().map(|&time| !time).collect();
         let chunked = 65 + n as u8 % 8;
         for mut tree in [
             Tree::of_list(&low, |_, _| chunked),
-            Tree::of_list(&high, chosen),
+            Tree::of_list(&mirrored(&low), chosen),
         ] {
             tree.surround(&mut random);
             for place in tree.bytes_of_parts() {
@@ -385,57 +411,30 @@ fn changed_bytes() {
 
 #[test]
 fn parts_of_random_bytes() {
-    let mut random = Random(10);
-    let mut tally = Tally::default();
-    for n in few_pins() {
-        for tree in trees(n, &mut random) {
-            for ones in [1, 3, 8, 13] {
-                let mut tree = tree.clone();
-                // One level, or as often all.
-                let one = 1 + random.below(2 * tree.height());
-                for level in 1..=tree.height() {
-                    if level == one || one > tree.height() {
-                        let length = tree.part(level).len() + random.below(4);
-                        tree.set_part(level, &random.dense_bytes(length, ones));
-                    }
-                }
-                check_damaged(&tree, &mut tally, &mut random);
+    let tally = damaged(Random(10), 4, |tree, round, random| {
+        let ones = [1, 3, 8, 13][round];
+        // One level, or as often all.
+        let one = 1 + random.below(2 * tree.height());
+        for level in 1..=tree.height() {
+            if level == one || one > tree.height() {
+                let length = tree.part(level).len() + random.below(4);
+                tree.set_part(level, &random.dense_bytes(length, ones));
             }
         }
-    }
+    });
     tally.require(&[0, 9, 10], 1000);
 }
 
 #[test]
 fn other_codes() {
-    let mut random = Random(11);
-    let mut tally = Tally::default();
-    for n in few_pins() {
-        for tree in trees(n, &mut random) {
-            for _ in 0..4 {
-                let mut tree = tree.clone();
-                let level = 1 + random.below(tree.height());
-                let any = random.draw() as u8;
-                // Those on either side of the limits, and some of each kind.
-                let codes = [
-                    0,
-                    1,
-                    32,
-                    33,
-                    64,
-                    65,
-                    72,
-                    73,
-                    255,
-                    any % 33,
-                    65 + any % 8,
-                    any,
-                ];
-                tree.levels.codes[level - 1] = codes[random.below(codes.len())];
-                check_damaged(&tree, &mut tally, &mut random);
-            }
-        }
-    }
+    let tally = damaged(Random(11), 4, |tree, _, random| {
+        let level = 1 + random.below(tree.height());
+        let any = random.draw() as u8;
+        // Those on either side of the limits, and some of each kind.
+        let limits = [0, 1, 32, 33, 64, 65, 72, 73, 255];
+        let codes = [&limits[..], &[any % 33, 65 + any % 8, any]].concat();
+        tree.levels.codes[level - 1] = codes[random.below(codes.len())];
+    });
     tally.require(&[0, 9, 10], 1000);
 }
 
@@ -487,31 +486,21 @@ fn parts_cut_short() {
 
 #[test]
 fn parts_elsewhere() {
-    let mut random = Random(14);
-    let mut tally = Tally::default();
-    for n in few_pins() {
-        for tree in trees(n, &mut random) {
-            let (height, length) = (tree.height(), tree.s.len());
-            for _ in 0..4 {
-                // One end between its neighbours.
-                let mut tree = tree.clone();
-                let level = 1 + random.below(height);
-                let before = tree.levels.ends[level - 1];
-                let after = if level < height {
-                    tree.levels.ends[level + 1]
-                } else {
-                    length
-                };
-                tree.levels.ends[level] = before + random.below(after - before + 1);
-                check_damaged(&tree, &mut tally, &mut random);
-                // All ends anywhere.
-                let ends = &mut tree.levels.ends[..=height];
-                ends.fill_with(|| random.below(length + 1));
-                ends.sort();
-                check_damaged(&tree, &mut tally, &mut random);
-            }
+    let tally = damaged(Random(14), 8, |tree, round, random| {
+        let (height, length) = (tree.height(), tree.s.len());
+        let ends = &mut tree.levels.ends[..=height];
+        if round % 2 == 0 {
+            // One end between its neighbours.
+            let level = 1 + random.below(height);
+            let before = ends[level - 1];
+            let after = ends.get(level + 1).map_or(length, |&end| end);
+            ends[level] = before + random.below(after - before + 1);
+        } else {
+            // All ends anywhere.
+            ends.fill_with(|| random.below(length + 1));
+            ends.sort();
         }
-    }
+    });
     tally.require(&[0, 9, 10], 1000);
 }
 
@@ -580,27 +569,23 @@ fn values_of_no_list() {
     let mut random = Random(17);
     let mut tally = Tally::default();
     for n in 1..=70 {
-        for _ in 0..20 {
-            let mut values: Vec<u32> = (0..n).map(|_| random.skewed()).collect();
-            if random.below(2) == 0 {
-                values[0] = !values[0];
-            }
+        for round in 0..30 {
+            let values = any_values(n, round, &mut random);
             let mut tree = Tree::of_values(&values, any_code(&mut random));
             tree.surround(&mut random);
             check_damaged(&tree, &mut tally, &mut random);
         }
     }
-    tally.require(&[0, 10], 1000);
+    tally.require(&[0, 10], 1500);
 }
 
 #[test]
 fn times_at_the_very_ends() {
     let mut random = Random(18);
     let mut tally = Tally::default();
-    let ends = [0, 1, 2, (1 << 31) - 1, 1 << 31, u32::MAX - 1, u32::MAX];
     for n in 1..=15 {
         for _ in 0..200 {
-            let values: Vec<u32> = (0..n).map(|_| ends[random.below(ends.len())]).collect();
+            let values: Vec<u32> = (0..n).map(|_| random.extreme()).collect();
             let tree = Tree::of_values(&values, any_code(&mut random));
             check_damaged(&tree, &mut tally, &mut random);
         }
@@ -608,15 +593,10 @@ fn times_at_the_very_ends() {
     tally.require(&[0, 10], 1000);
 }
 
-/// The first and last node of a level with all nodes.
-fn outermost(level: usize) -> (usize, usize) {
-    (1 << (level - 1), (1 << level) - 1)
-}
-
 #[test]
 fn refused_times_at_every_depth() {
     for level in 2..=HEIGHT {
-        let (first, last) = outermost(level);
+        let (first, last) = nodes_of_level(PINS, level).into_inner();
         let mut values = vec![0; PINS];
         values[first - 1] = 1;
         let tree = Tree::of_values(&values, chosen);
@@ -635,7 +615,7 @@ fn refused_times_at_every_depth() {
 fn refused_fetches_at_every_depth() {
     let tree = Tree::of_list(&[7; PINS], width_32);
     for level in 1..=HEIGHT {
-        let (first, last) = outermost(level);
+        let (first, last) = nodes_of_level(PINS, level).into_inner();
         let mut tree = tree.clone();
         tree.set_part(level, &[]);
         assert_eq!(tree.check_access(0), Err(Refusal::Fetch(first)));
@@ -649,11 +629,10 @@ fn refused_fetches_at_every_depth() {
 
 #[test]
 fn marked_cases() {
-    let times = [100, 250, 250, 400, 1000];
     let values = [400, 150, 600, 150, 0];
-    assert_eq!(reference::stored(&times), values);
-    check_construct(&times);
-    let a = Tree::of_list(&times, chosen);
+    assert_eq!(reference::stored(&TIMES_A), values);
+    check_construct(&TIMES_A);
+    let a = Tree::of_list(&TIMES_A, chosen);
     assert_eq!(a.levels.codes[..3], [0x09, 0x0A, 0x42]);
     assert_eq!(a.part(1), [0xC8, 0x00]);
     assert_eq!(a.part(2), [0x25, 0xA5, 0x80]);

@@ -14,7 +14,8 @@ use gemcotton_tests::random::Random;
 use gemcotton_tests::reference::strip::PINS;
 use gemcotton_tests::reference::tree::levels_of;
 use gemcotton_tests::reference::{kind, Kind};
-use gemcotton_tests::{proved, reference, straightforward};
+use gemcotton_tests::strips::packed;
+use gemcotton_tests::{proved, straightforward};
 
 const COUNT: usize = 32_768;
 /// The targets of a sweep.
@@ -102,45 +103,75 @@ impl Level {
     }
 }
 
-/// Fetches the values at the indices, the same ones for both.
-fn fetches<'a>(level: &'a Level, indices: &'a [usize]) -> impl FnMut(Which) + 'a {
-    for &index in indices {
-        let (part, code, value) = (&level.part, level.code, level.values[index]);
-        let fetched = straightforward::fetch(part, code, COUNT, index);
-        assert_eq!(fetched, Some(value));
-        assert_eq!(proved::fetch(part, code, COUNT, index), fetched);
+/// Runs over the inputs, on which both must agree.
+fn each<'a, Input: Copy, Output: PartialEq + Debug>(
+    inputs: &'a [Input],
+    proved: impl Fn(Input) -> Output + 'a,
+    straightforward: impl Fn(Input) -> Output + 'a,
+) -> impl FnMut(Which) + 'a {
+    for &input in inputs {
+        assert_eq!(proved(input), straightforward(input));
     }
     move |which| {
-        let (part, code, count) = black_box((&level.part, level.code, COUNT));
+        let inputs = black_box(inputs);
         match which {
             Which::Proved => {
-                for &index in indices {
-                    black_box(proved::fetch(part, code, count, index));
+                for &input in inputs {
+                    black_box(proved(input));
                 }
             }
             Which::Straightforward => {
-                for &index in indices {
-                    black_box(straightforward::fetch(part, code, count, index));
+                for &input in inputs {
+                    black_box(straightforward(input));
                 }
             }
         }
     }
 }
 
-/// Both write the same buffer, which is not cleared between calls. The proved function is
-/// lent a list to work in, which the other one allocates.
-fn encodes(level: &Level) -> impl FnMut(Which) + '_ {
-    let mut buffer = vec![0; level.part.len()];
-    let mut list = vec![0; level.values.len()];
+/// Both write the same buffer, which is not cleared between calls. They must write this and give
+/// this answer.
+fn writes<'a, Entry: Copy + Default + PartialEq + 'a, Answer: PartialEq + Debug + 'a>(
+    written: &[Entry],
+    answer: Answer,
+    mut proved: impl FnMut(&mut [Entry]) -> Answer + 'a,
+    mut straightforward: impl FnMut(&mut [Entry]) -> Answer + 'a,
+) -> impl FnMut(Which) + 'a {
+    let mut buffer = vec![Entry::default(); written.len()];
+    assert_eq!(proved(&mut buffer), answer);
+    assert!(buffer == written);
+    buffer.fill(Entry::default());
+    assert_eq!(straightforward(&mut buffer), answer);
+    assert!(buffer == written);
     move |which| {
-        let (values, code, size) = black_box((&level.values, level.code, level.size));
         let out = black_box(&mut buffer[..]);
         black_box(match which {
-            // SAFETY: the code and size are those chosen for the values.
-            Which::Proved => unsafe { proved::encode_sized(values, code, size, &mut list, out) },
-            Which::Straightforward => straightforward::encode(values, code, out),
+            Which::Proved => proved(out),
+            Which::Straightforward => straightforward(out),
         });
     }
+}
+
+/// Fetches the values at the indices, the same ones for both.
+fn fetches<'a>(level: &'a Level, indices: &'a [usize]) -> impl FnMut(Which) + 'a {
+    let (part, code, count) = black_box((&level.part, level.code, COUNT));
+    let proved = move |index| proved::fetch(part, code, count, index);
+    let baseline = move |index| straightforward::fetch(part, code, count, index);
+    for &index in indices {
+        assert_eq!(baseline(index), Some(level.values[index]));
+    }
+    each(indices, proved, baseline)
+}
+
+/// The proved function is lent a list to work in, which the other one allocates.
+fn encodes(level: &Level) -> impl FnMut(Which) + '_ {
+    let (values, code, size) = black_box((&level.values, level.code, level.size));
+    let mut list = vec![0; values.len()];
+    // SAFETY: the code and size are those chosen for the values.
+    let proved =
+        move |out: &mut [u8]| unsafe { proved::encode_sized(values, code, size, &mut list, out) };
+    let baseline = move |out: &mut [u8]| straightforward::encode(values, code, out);
+    writes(&level.part, level.part.len(), proved, baseline)
 }
 
 fn chooses(level: &Level) -> impl FnMut(Which) + '_ {
@@ -177,48 +208,14 @@ fn report_levels(alone: &Option<(Which, String)>, random: &mut Random) {
     report(alone, "fixed", &label, fetches(&fixed, &many));
 }
 
-/// Both write the same buffer, which is not cleared between calls.
 fn constructs(times: &[u32]) -> impl FnMut(Which) + '_ {
+    assert!(times.is_sorted());
+    // SAFETY: the times do not fall.
+    let proved = |out: &mut [u32]| unsafe { proved::tree::construct_sorted(out, times) };
+    let baseline = |out: &mut [u32]| straightforward::tree::store(out, times);
     let mut values = vec![0; times.len()];
-    straightforward::tree::store(&mut values, times);
-    let mut same = vec![0; times.len()];
-    proved::tree::construct(&mut same, times);
-    assert!(values == same);
-    move |which| {
-        let times = black_box(times);
-        let values = black_box(&mut values[..]);
-        match which {
-            // SAFETY: the times are those of a list, as asserted above.
-            Which::Proved => unsafe { proved::tree::construct_sorted(values, times) },
-            Which::Straightforward => straightforward::tree::store(values, times),
-        }
-    }
-}
-
-/// Runs over the inputs, on which both must agree.
-fn each<'a, Input: Copy, Output: PartialEq + Debug>(
-    inputs: &'a [Input],
-    proved: impl Fn(Input) -> Output + 'a,
-    straightforward: impl Fn(Input) -> Output + 'a,
-) -> impl FnMut(Which) + 'a {
-    for &input in inputs {
-        assert_eq!(proved(input), straightforward(input));
-    }
-    move |which| {
-        let inputs = black_box(inputs);
-        match which {
-            Which::Proved => {
-                for &input in inputs {
-                    black_box(proved(input));
-                }
-            }
-            Which::Straightforward => {
-                for &input in inputs {
-                    black_box(straightforward(input));
-                }
-            }
-        }
-    }
+    baseline(&mut values);
+    writes(&values, (), proved, baseline)
 }
 
 /// The longest list, positions and targets in it, and the targets of a sweep.
@@ -288,60 +285,13 @@ fn report_trees(alone: &Option<(Which, String)>, tune: &Tune, random: &mut Rando
     report(alone, "rank", &label, each(&nodes, proved, baseline));
 }
 
-/// Both write the same buffer, which is not cleared between calls.
-fn packs<'a>(times: &'a [u32], strip: &[u8]) -> impl FnMut(Which) + 'a {
-    let mut buffer = vec![0; strip.len()];
-    for pack in [proved::strip::pack, straightforward::strip::pack] {
-        buffer.fill(0);
-        assert_eq!(pack(times, &mut buffer), Ok(strip.len()));
-        assert!(buffer == strip);
-    }
-    move |which| {
-        let times = black_box(times);
-        let out = black_box(&mut buffer[..]);
-        black_box(match which {
-            Which::Proved => proved::strip::pack(times, out),
-            Which::Straightforward => straightforward::strip::pack(times, out),
-        })
-        .expect("a list and room");
-    }
-}
-
-/// Both write the same buffer, which is not cleared between calls.
-fn unpacks<'a>(strip: &'a [u8], times: &[u32]) -> impl FnMut(Which) + 'a {
-    let mut buffer = vec![0; times.len()];
-    for unpack in [proved::strip::unpack, straightforward::strip::unpack] {
-        buffer.fill(0);
-        assert_eq!(unpack(strip, &mut buffer), Ok(times.len()));
-        assert!(buffer == times);
-    }
-    move |which| {
-        let strip = black_box(strip);
-        let out = black_box(&mut buffer[..]);
-        black_box(match which {
-            Which::Proved => proved::strip::unpack(strip, out),
-            Which::Straightforward => straightforward::strip::unpack(strip, out),
-        })
-        .expect("a list's strip and room");
-    }
-}
-
-/// Both write the same buffer, which is not cleared between calls.
 fn sweeps<'a>(strip: &'a [u8], targets: &'a [u32]) -> impl FnMut(Which) + 'a {
-    let mut buffer = vec![0; targets.len()];
-    let nodes = straightforward::strip::sweep(strip, targets, &mut buffer);
-    let mut same = vec![0; targets.len()];
-    assert_eq!(proved::strip::sweep(strip, targets, &mut same), nodes);
-    assert!(buffer == same);
-    move |which| {
-        let (strip, targets) = black_box((strip, targets));
-        let out = black_box(&mut buffer[..]);
-        black_box(match which {
-            Which::Proved => proved::strip::sweep(strip, targets, out),
-            Which::Straightforward => straightforward::strip::sweep(strip, targets, out),
-        })
-        .expect("a list's strip and targets that do not fall");
-    }
+    let proved = |out: &mut [u32]| proved::strip::sweep(strip, targets, out);
+    let baseline = |out: &mut [u32]| straightforward::strip::sweep(strip, targets, out);
+    let mut positions = vec![0; targets.len()];
+    let nodes = baseline(&mut positions);
+    assert!(nodes.is_ok());
+    writes(&positions, nodes, proved, baseline)
 }
 
 /// The proved sweep stands on the proved side, and proved searches for its targets on the other.
@@ -359,9 +309,12 @@ fn sweep_and_searches<'a>(strip: &'a [u8], targets: &'a [u32]) -> impl FnMut(Whi
 
 /// Lines for the strip.
 fn report_strips(alone: &Option<(Which, String)>, tune: &Tune) {
-    let strip = reference::strip::pack(&tune.times, usize::MAX).expect("a list");
+    let strip = packed(&tune.times);
     let label = format!("pack, {PINS} times (buffer not cleared)");
-    report(alone, "pack", &label, packs(&tune.times, &strip));
+    let proved = |out: &mut [u8]| proved::strip::pack(&tune.times, out);
+    let baseline = |out: &mut [u8]| straightforward::strip::pack(&tune.times, out);
+    let work = writes(&strip, Ok(strip.len()), proved, baseline);
+    report(alone, "pack", &label, work);
     let label = format!("access in a strip, opened each time, {PINS} pins");
     let proved = |i| proved::strip::access(&strip, i);
     let baseline = |i| straightforward::strip::access(&strip, i);
@@ -384,7 +337,9 @@ fn report_strips(alone: &Option<(Which, String)>, tune: &Tune) {
     let work = each(&strips, proved::strip::check, straightforward::strip::check);
     report_rounds(alone, FEW_ROUNDS, "check", &label, work);
     let label = format!("unpack, {PINS} pins (buffer not cleared)");
-    let work = unpacks(&strip, &tune.times);
+    let proved = |out: &mut [u32]| proved::strip::unpack(&strip, out);
+    let baseline = |out: &mut [u32]| straightforward::strip::unpack(&strip, out);
+    let work = writes(&tune.times, Ok(PINS), proved, baseline);
     report_rounds(alone, FEW_ROUNDS, "unpack", &label, work);
     // There are none, so that all positions are read.
     let label = format!("repeat for gaps below 0, {PINS} pins");

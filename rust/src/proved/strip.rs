@@ -1,12 +1,19 @@
 //! The proved strip calls, by the crate for users, with answers told as the others tell them.
 
-use crate::reference::strip::Refusal;
+use gemcotton::{Accessed, Walker};
+
+use crate::reference::strip::{Refusal, Said};
 
 fn refusal(refusal: gemcotton::Refusal) -> Refusal {
     Refusal {
         number: refusal.number(),
         carried: refusal.carried(),
     }
+}
+
+/// The time and the nodes opened.
+fn accessed(found: Accessed) -> (u32, usize) {
+    (found.time, found.nodes)
 }
 
 #[inline]
@@ -16,8 +23,7 @@ pub fn pack(times: &[u32], out: &mut [u8]) -> Result<usize, Refusal> {
 
 #[inline]
 pub fn access(strip: &[u8], i: usize) -> Result<(u32, usize), Refusal> {
-    let found = gemcotton::access(strip, i).map_err(refusal)?;
-    Ok((found.time, found.nodes))
+    gemcotton::access(strip, i).map(accessed).map_err(refusal)
 }
 
 #[inline]
@@ -50,4 +56,17 @@ pub fn unpack(strip: &[u8], out: &mut [u32]) -> Result<usize, Refusal> {
 #[inline]
 pub fn repeat(strip: &[u8], r: u32) -> Result<Option<usize>, Refusal> {
     gemcotton::repeat(strip, r).map_err(refusal)
+}
+
+#[inline]
+pub fn step(walker: &mut Walker) -> Said {
+    let found = walker.step().map_err(refusal)?;
+    Ok(found.map(accessed))
+}
+
+/// What the walker gives where it is iterated.
+pub fn items(walker: Walker<'_>) -> impl Iterator<Item = Result<(u32, usize), Refusal>> + '_ {
+    walker
+        .into_iter()
+        .map(|item| item.map(accessed).map_err(refusal))
 }

@@ -245,3 +245,26 @@ pub fn repeat(strip: &[u8], r: u32) -> Result<Option<usize>, Refusal> {
     }
     Ok(None)
 }
+
+/// What a step of the pin walker says: the time with the nodes opened, or none where it says end,
+/// or the refusal.
+pub type Said = Result<Option<(u32, usize)>, Refusal>;
+
+/// "Pin walker [...]: it carries the strip it walks and the next position, 0 at the start." What a
+/// step says, and the next position after it. "End and refusals do not move it."
+pub fn step(strip: &[u8], next: usize) -> (Said, usize) {
+    // "A step opens".
+    let levels = match open(strip) {
+        Ok(levels) => levels,
+        Err(refusal) => return (Err(refusal), next),
+    };
+    // "Says end at n or beyond".
+    if next >= levels.pins {
+        return (Ok(None), next);
+    }
+    // "Otherwise is access there and moves on by one."
+    match access(strip, next) {
+        Ok(found) => (Ok(Some(found)), next + 1),
+        Err(refusal) => (Err(refusal), next),
+    }
+}
