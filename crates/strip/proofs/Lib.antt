@@ -1,4 +1,5 @@
--- Laws that belong to no one function, each file about what its name says; Promises proves what specs/Promises states.
+-- Laws that the proofs of the functions cite, each file about what its first line says; Promises and Demands prove what the files of
+-- that name in specs/ state, Marked the table of marked cases.
 pub mod Checks
 pub mod Counts
 pub mod Demands
