@@ -9,7 +9,7 @@ use lib.ListN.{length, take, drop, getD, replicate, length-append, length-take, 
 use lib.Seq.{take-at, drop-at, length-take-le, take-add, drop-drop, getD-drop}
 use lib.Pow.{pow-pos, pow-add, pow-mono, mod-pow-add, high, low, split, shr-shr}
 use lib.Arith.{digits-lt}
-use Rattle.codes.specs.Bits.{bits, number, sum, fixed, bytesOf, bytesFor, padded}
+use Rattle.codes.specs.Bits.{bits, number, sum, fixed, numbers, bytesOf, bytesFor, padded}
 use Rattle.codes.specs.Codes.{Within}
 
 -- ---- elements of at most w bits; those of bits have at most one
@@ -119,6 +119,12 @@ bits-mod w x = sym (bits-low w (x / 2 ^ w) (x % 2 ^ w)) ∙ ap (bits w) (split x
 
 -- ---- ones
 
+pub sum-take-suc : (bs : List ℕ) (i : ℕ) → i < length bs → sum (take (suc i) bs) ≡ sum (take i bs) + getD bs i 0
+unfolding sum
+sum-take-suc [] i h = absurd (not-suc-le-zero h)
+sum-take-suc (b ∷ bs) zero h = omega arith
+sum-take-suc (b ∷ bs) (suc i) h = omega (arith, sum-take-suc bs i (le-of-suc-le-suc h))
+
 sum-append : (xs ys : List ℕ) → sum (xs ++ ys) ≡ sum xs + sum ys
 unfolding sum
 sum-append [] ys = omega arith
@@ -137,21 +143,21 @@ sum-le (b ∷ bs) (suc n) h = omega (arith, h 0, sum-le bs n (λ j. h (suc j)))
 -- ---- bits to bytes and back
 
 pub bytes-bits : (k : ℕ) (bs : List ℕ) → Within 1 bs → k * 8 ≤ length bs → fixed 8 (bytesOf k bs) ≡ take (k * 8) bs
-unfolding fixed bytesOf
+unfolding fixed numbers
 bytes-bits zero bs h l = refl
 bytes-bits (suc k) bs h l =
     let e : suc k * 8 ≡ 8 + k * 8 = omega arith in
     let b = bits-number (take 8 bs) (within-take 1 8 bs h) (length-take-le 8 bs (omega arith)) in
     rw (e, take-add 8 (k * 8) bs, b, bytes-bits k (drop 8 bs) (within-drop 1 8 bs h) (simp length-drop (omega arith)))
 
-length-bytesOf : (k : ℕ) (bs : List ℕ) → length (bytesOf k bs) ≡ k
-unfolding bytesOf
-length-bytesOf zero bs = refl
-length-bytesOf (suc k) bs = ap suc (length-bytesOf k (drop 8 bs))
+pub length-numbers : (w n : ℕ) (bs : List ℕ) → length (numbers w n bs) ≡ n
+unfolding numbers
+length-numbers w zero bs = refl
+length-numbers w (suc n) bs = ap suc (length-numbers w n (drop w bs))
 
 pub length-padded : (bs : List ℕ) → length (padded bs) ≡ bytesFor (length bs)
 unfolding padded
-length-padded bs = length-bytesOf (bytesFor (length bs)) (bs ++ replicate 7 0)
+length-padded bs = length-numbers 8 (bytesFor (length bs)) (bs ++ replicate 7 0)
 
 -- ---- a part of bits, as a number
 
@@ -175,3 +181,10 @@ pub number-take-lt : (bs : List ℕ) (w : ℕ) → Within 1 bs → number (take 
 number-take-lt bs w h =
     let l : length (take w bs) ≤ w = simp length-take (omega arith) in
     lt-of-lt-of-le (number-lt (take w bs) (within-take 1 w bs h) refl) (pow-mono l)
+
+-- a bit, read as a number
+pub number-one : (bs : List ℕ) (k : ℕ) → k < length bs → number (take 1 (drop k bs)) ≡ getD bs k 0
+unfolding number
+number-one [] k h = absurd (omega arith)
+number-one (x ∷ bs) zero h = omega arith
+number-one (x ∷ bs) (suc k) h = number-one bs k (omega arith)

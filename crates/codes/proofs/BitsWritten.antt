@@ -9,7 +9,7 @@ use lib.ListN.{length, take, drop, set, replicate, length-set, length-append, ta
 use lib.Seq.{take-at, drop-at, take-append-add, length-take-le, take-suc-set, drop-set-lt}
 use lib.Pow.{high, mod-pow-add, mod-mod-pow, shl-shr}
 use Rattle.codes.specs.declared.writing.Writer.{Writer}
-use Rattle.codes.specs.Bits.{bits, number, fixed, bytesOf, bitsOf, bytesFor, padded}
+use Rattle.codes.specs.Bits.{bits, number, fixed, numbers, bytesOf, bitsOf, bytesFor, padded}
 use Rattle.codes.specs.Codes.{Within}
 use Rattle.codes.specs.Written.{written, Wrote}
 use Rattle.codes.proofs.Bits.{bits-low, bits-mod, bits-split, length-bits, length-fixed, length-padded, fixed-append, number-bits, number-append}
@@ -87,7 +87,7 @@ wrote-byte out at next have h acc v l e k q =
 -- ---- the padded bytes
 
 bytes-append : (xs z : List ℕ) (k : ℕ) → Within 8 xs → bytesOf (length xs + k) (bitsOf xs ++ z) ≡ xs ++ bytesOf k z
-unfolding fixed bytesOf
+unfolding fixed numbers
 bytes-append [] z k h = ap (λ (n : ℕ). bytesOf n z) (zero-add k)
 bytes-append (x ∷ xs) z k h =
     rw (
@@ -116,14 +116,14 @@ last-byte n a l k =
     ∙ rw (take-append-add (bits n a) z (8 - n), number-append (bits n a) (take (8 - n) z), number-bits n a, q, number-zeros (8 - n) 7, add-zero (a % 2 ^ n * 2 ^ (8 - n)))
 
 pub padded-whole : (xs : List ℕ) (a : ℕ) → Within 8 xs → padded (bitsOf xs ++ bits 0 a) ≡ xs
-unfolding padded bits bytesOf
+unfolding padded bits numbers
 padded-whole xs a h =
     let e : bytesFor (length (bitsOf xs)) ≡ length xs + 0 = rw (length-fixed 8 xs) (omega arith) in
     rw (append-nil (bitsOf xs), e, bytes-append xs (replicate 7 0) 0 h, append-nil xs)
 
 -- the last byte has n bits at its top: a shift in a word of 64 bits puts them there
 pub padded-last : (xs : List ℕ) (n a : ℕ) → Within 8 xs → 0 < n → n < 8 → padded (bitsOf xs ++ bits n a) ≡ xs ++ (a * 2 ^ (8 - n) % 2 ^ 64 / 2 ^ 0 % 256 ∷ [])
-unfolding padded bytesOf
+unfolding padded numbers
 padded-last xs n a h l k =
     let e : bytesFor (length (bitsOf xs ++ bits n a)) ≡ length xs + 1 = rw (length-append (bitsOf xs) (bits n a), length-fixed 8 xs, length-bits n a) (omega arith) in
     let m : n + (8 - n) ≡ 8 = omega arith in

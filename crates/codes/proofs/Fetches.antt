@@ -28,7 +28,7 @@ fixed-inside w j bs h = rw (le-ltb (length bs) ((j + 1) * w) h)
 -- ---- chunked codes, without the number of layers
 
 -- a one at j counts among the first n, and not among the first j
-sum-take-lt : (bs : List ℕ) (j n : ℕ) → j < n → eqb (getD bs j 0) 0 ≡ false → sum (take j bs) < sum (take n bs)
+pub sum-take-lt : (bs : List ℕ) (j n : ℕ) → j < n → eqb (getD bs j 0) 0 ≡ false → sum (take j bs) < sum (take n bs)
 unfolding sum
 sum-take-lt [] j n h e = absurd (eqb-false 0 0 e refl)
 sum-take-lt (x ∷ bs) j zero h e = absurd (not-suc-le-zero h)
@@ -36,7 +36,7 @@ sum-take-lt (x ∷ bs) zero (suc n) h e = omega (arith, eqb-false x 0 e)
 sum-take-lt (x ∷ bs) (suc j) (suc n) h e = omega (arith, sum-take-lt bs j n (le-of-suc-le-suc h) e)
 
 -- one layer of a fetch, with d for the fetch of what follows it
-abbrev layerOf : ℕ → ℕ → ℕ → List ℕ → Fetched → Fetched
+abbrev pub layerOf : ℕ → ℕ → ℕ → List ℕ → Fetched → Fetched
 layerOf b n j bs d =
     cond (ltb (length bs) (n + n * b)) outside
     (cond (eqb (getD bs j 0) 0) (value (number (take b (drop (n + j * b) bs)))) (extended b (number (take b (drop (n + j * b) bs))) d))

@@ -5,10 +5,12 @@ pub mod Bits
 pub mod BitsWritten
 pub mod ChunkCounts
 pub mod CodeByte
+pub mod Decodes
 pub mod Fetches
 pub mod Layers
 pub mod LayersWritten
 pub mod Lists
+pub mod Merges
 pub mod Parts
 pub mod Promises
 pub mod Tallies

@@ -1,11 +1,14 @@
--- Lists that agree from one place on, and lists of zeros.
+-- Lists that agree from one place on, lists whose first entries are known, and lists of zeros.
 use mathlib.Core.Path.{_≡_, refl, sym, ap, _∙_}
+use mathlib.Core.Bool.{Bool, true, false}
 use mathlib.Core.List.{List}
-use Prim.Native.Nat.{ℕ, zero, suc, _+_, _-_, _≤_}
+use Prim.Native.Nat.{ℕ, zero, suc, _+_, _-_, _≤_, _<_}
 use native.Mathlib.Nat.{add-zero}
 use native.Mathlib.Omega.{arith}
-use lib.ListN.{drop, getD, replicate}
-use lib.Seq.{drop-drop, getD-drop}
+use lib.ListN.{length, drop, set, getD, replicate}
+use lib.Seq.{drop-drop, getD-drop, getD-set-same, getD-set-other}
+use lib.Dec.{eqb}
+use borrow.Author.Tests.{eqb-true, eqb-false}
 
 module _ {ℓ} {A : Type ℓ} (xs ys : List A) (n : ℕ) (e : drop n xs ≡ drop n ys) where
   pub drop-later : (m : ℕ) → n ≤ m → drop m xs ≡ drop m ys
@@ -15,6 +18,15 @@ module _ {ℓ} {A : Type ℓ} (xs ys : List A) (n : ℕ) (e : drop n xs ≡ drop
 
   pub getD-there : (d : A) → getD xs n d ≡ getD ys n d
   getD-there d = rw (add-zero n) at (sym (getD-drop n xs 0 d) ∙ ap (λ (l : List A). getD l 0 d) e ∙ getD-drop n ys 0 d)
+
+-- one entry more is known
+pub more : (vs : List ℕ) (i x : ℕ) (f : ℕ → ℕ) → i < length vs → ((q : ℕ) → q < i → getD vs q 0 ≡ f q) → x ≡ f i
+    → (q : ℕ) → q < i + 1 → getD (set vs i x) q 0 ≡ f q
+more vs i x f h known e q k = go (eqb q i) refl
+  where
+    go : (t : Bool) → eqb q i ≡ t → getD (set vs i x) q 0 ≡ f q
+    go true s = rw (eqb-true q i s) (getD-set-same vs i x 0 h ∙ e)
+    go false s = getD-set-other vs i q x 0 (eqb-false q i s) ∙ known q (omega (arith, eqb-false q i s))
 
 pub zeros-at : (n t : ℕ) → _≡_ {A = ℕ} (getD (replicate n 0) t 0) 0
 zeros-at zero t = refl

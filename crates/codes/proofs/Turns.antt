@@ -13,7 +13,7 @@ use lib.Pow.{pow-add, pow-mono}
 use borrow.Author.Tests.{le-ltb, lt-ltb, eq-eqb, ne-eqb}
 use Rattle.codes.specs.Bits.{number, sum}
 use Rattle.codes.specs.Fetch.{Fetched, value, outside, extended, within32, chunkedAt}
-use Rattle.codes.proofs.Bits.{sum-take-add}
+use Rattle.codes.proofs.Bits.{number-one, sum-take-add}
 use Rattle.codes.proofs.Fetches.{fetch-step}
 
 -- ---- what is above a value
@@ -47,13 +47,6 @@ next s b a c (value v) =
     ap (λ (x : ℕ). within32 (value x)) e ∙ cap (s + b) (a + c * 2 ^ s) (value v)
 
 -- ---- the turns
-
--- a bit, read as a number
-number-one : (bs : List ℕ) (k : ℕ) → k < length bs → number (take 1 (drop k bs)) ≡ getD bs k 0
-unfolding number
-number-one [] k h = absurd (omega arith)
-number-one (x ∷ bs) zero h = omega arith
-number-one (x ∷ bs) (suc k) h = number-one bs k (omega arith)
 
 first-one : (bs : List ℕ) (m : ℕ) → 1 ≤ m → (number (take 1 bs) ≡ 0 → ⊥) → 1 ≤ sum (take m bs)
 unfolding number sum

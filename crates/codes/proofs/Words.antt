@@ -10,7 +10,7 @@ use lib.ListN.{length, take, drop, getD, length-drop}
 use lib.Seq.{take-take, take-add, drop-drop, length-take-le}
 use lib.Arith.{digits-lt}
 use lib.Count.{ones, ones-cat}
-use lib.Pow.{pow-add}
+use lib.Pow.{pow-add, low, high}
 use Rattle.codes.specs.Bits.{number, sum, bitsOf}
 use Rattle.codes.specs.Codes.{Within}
 use Rattle.codes.proofs.Bits.{within-take, within-drop, bits-fixed, length-fixed, fixed-fetch, number-append, number-lt, number-part, number-take-lt, sum-take-add, sum-le}
@@ -56,6 +56,15 @@ number-bytes (suc k) bytes i h b = rw (← (add-one k), number-next bytes i k (o
 -- so many bits spell less than a power of two
 pub part-lt : (bytes : List ℕ) (at w : ℕ) → number (take w (from bytes at)) < 2 ^ w
 part-lt bytes at w = number-take-lt (from bytes at) w (bits-from bytes at)
+
+-- of j + 1 numbers of w bits the last, and those before it
+pub last-number : (bytes : List ℕ) (at j w : ℕ) → at + j * w + w ≤ length bytes * 8
+    → let x = number (take (suc j * w) (from bytes at)) in
+    (x % 2 ^ w ≡ number (take w (from bytes (at + j * w)))) × (x / 2 ^ w ≡ number (take (j * w) (from bytes at)))
+last-number bytes at j w h =
+    let e : suc j * w ≡ j * w + w = omega arith in
+    let l = part-lt bytes (at + j * w) w in
+    rw (e, number-more bytes at (j * w) w h) (low (number (take (j * w) (from bytes at))) w l, high (number (take (j * w) (from bytes at))) w l)
 
 take-drop-take : (w s m : ℕ) (l : List ℕ) → s + w ≤ m → take w (drop s (take m l)) ≡ take w (drop s l)
 take-drop-take w zero m l h = take-take w m l (omega arith)

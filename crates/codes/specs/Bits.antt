@@ -27,10 +27,14 @@ fixed w (v ∷ vs) = bits w v ++ fixed w vs
 abbrev pub bitsOf : List ℕ → List ℕ
 bitsOf bytes = fixed 8 bytes
 
+-- the first n numbers that bits spell, each in w bits
+unfoldable pub numbers : ℕ → ℕ → List ℕ → List ℕ
+numbers w zero bs = []
+numbers w (suc n) bs = number (take w bs) ∷ numbers w n (drop w bs)
+
 -- the first k bytes that bits fill
-unfoldable pub bytesOf : ℕ → List ℕ → List ℕ
-bytesOf zero bs = []
-bytesOf (suc k) bs = number (take 8 bs) ∷ bytesOf k (drop 8 bs)
+abbrev pub bytesOf : ℕ → List ℕ → List ℕ
+bytesOf k bs = numbers 8 k bs
 
 -- whole bytes that hold n bits
 abbrev pub bytesFor : ℕ → ℕ

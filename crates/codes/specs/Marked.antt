@@ -7,10 +7,11 @@ use Prim.Native.Nat.{ℕ, _+_}
 use lib.Dec.{eqb}
 use lib.ListN.{length}
 use Rattle.codes.specs.Lists.{same}
-use Rattle.codes.specs.Bits.{bits, number, sum, fixed, bytesOf, padded}
+use Rattle.codes.specs.Bits.{bits, number, sum, fixed, numbers, padded}
 use Rattle.codes.specs.Codes.{kindOf, rest, layers, kindBits, part}
 use Rattle.codes.specs.Choice.{widthIn, widest, bestChunked, chosen}
 use Rattle.codes.specs.Fetch.{Fetched, value, outside, fixedAt, fetchLayers, chunkedAt, fetched}
+use Rattle.codes.specs.Decode.{Decoded, all, undecoded, merged, decodedLayers, kindDecoded, decoded}
 
 -- a level with the code that pack chooses for it, and its part
 pub record Level : Type 0 where
@@ -36,14 +37,20 @@ abbrev back : Level → ℕ → List ℕ → Bool
 back l j [] = true
 back l j (v ∷ vs) = is v (fetched (l .code) (length (l .values)) j (l .bytes)) && back l (j + 1) vs
 
--- pack chooses the code, and writes the bytes, and a fetch reads them
+abbrev are : List ℕ → Decoded → Bool
+are vs (all xs) = same xs vs
+are vs undecoded = false
+
+-- pack chooses the code, and writes the bytes, and a fetch reads each value, and decoding all of them
 abbrev passes : Level → Bool
-passes l = eqb (chosen (l .values) .code) (l .code) && same (part (l .code) (l .values)) (l .bytes) && back l 0 (l .values)
+passes l =
+    eqb (chosen (l .values) .code) (l .code) && same (part (l .code) (l .values)) (l .bytes) && back l 0 (l .values)
+    && are (l .values) (decoded (l .code) (length (l .values)) (l .bytes))
 
-abbrev all : List Level → Bool
-all [] = true
-all (l ∷ ls) = passes l && all ls
+abbrev allPass : List Level → Bool
+allPass [] = true
+allPass (l ∷ ls) = passes l && allPass ls
 
-pub marked-pass : all marked ≡ true
-unfolding bits number sum fixed bytesOf padded kindOf rest layers kindBits widthIn widest bestChunked chosen fixedAt fetchLayers chunkedAt fetched
+pub marked-pass : allPass marked ≡ true
+unfolding bits number sum fixed numbers padded kindOf rest layers kindBits widthIn widest bestChunked chosen fixedAt fetchLayers chunkedAt fetched merged decodedLayers kindDecoded
 marked-pass = refl

@@ -1,5 +1,5 @@
 -- What is shown of the level codes besides each function's contract. proofs/Promises proves each, as
--- `round-trip`, `lengths`, `best-choice`, `code-known` and `least-width`.
+-- `round-trip`, `lengths`, `best-choice`, `code-known`, `least-width` and `decode-fetches`.
 use mathlib.Core.Path.{_≡_}
 use mathlib.Core.List.{List, _++_, map}
 use Prim.Native.Nat.{ℕ, _+_, _*_, _^_, _≤_, _<_}
@@ -10,6 +10,7 @@ use Rattle.codes.specs.Bits.{sum, bytesFor}
 use Rattle.codes.specs.Codes.{kindOf, part, Within, Holds}
 use Rattle.codes.specs.Choice.{widthIn, chunks, size, chosen}
 use Rattle.codes.specs.Fetch.{value, fetched}
+use Rattle.codes.specs.Decode.{all, decoded}
 
 -- 1. By any code that holds the values, a fetch from their part, followed by any bytes or none, gives each value back.
 abbrev pub RoundTrip : Type 0
@@ -48,3 +49,8 @@ CodeKnown = (code : ℕ) (k : Kind) → kindOf code ≡ k → Known k code
 pub record LeastWidth : Type 0 where
   pub holds : (f v : ℕ) → v < 2 ^ f → v < 2 ^ widthIn f v
   pub least : (f v w : ℕ) → v < 2 ^ w → widthIn f v ≤ w
+
+-- 6. What is decoded is what a fetch of each value finds.
+abbrev pub DecodeFetches : Type 0
+DecodeFetches = (code n : ℕ) (bytes vs : List ℕ) → decoded code n bytes ≡ all vs
+    → (length vs ≡ n) × ((j : ℕ) → j < n → fetched code n j bytes ≡ value (getD vs j 0))

@@ -43,7 +43,7 @@ pub fn copy_values(work: &mut [u32], values: &[u32])
     }
 }
 
-fn clear(work: &mut [u32], n: usize)
+pub(crate) fn clear(work: &mut [u32], n: usize)
     requires { ⌜ n ≤ length (now work) ⌝ }
     ensures { λ r. ⌜ now (work .exit) ≡ replicate n 0 ++ drop n (now (work .entry)) ⌝ }
 {

@@ -13,15 +13,15 @@ ghost use Rattle.codes.specs.Written.{Wrote};
 ghost use Rattle.codes.specs.Radix.{IsRadix};
 
 // The width of a chunk, and 2 to its power.
-struct Radix {
-    bits: usize,
-    power: u64,
+pub(crate) struct Radix {
+    pub(crate) bits: usize,
+    pub(crate) power: u64,
 }
 
 const POWERS: [u64; 9] = [1, 2, 4, 8, 16, 32, 64, 128, 256];
 
 // The power comes from a table, since the compiler makes slow shifts of products and comparisons with a computed one.
-fn radix_of(b: usize) -> Radix
+pub(crate) fn radix_of(b: usize) -> Radix
     requires { ⌜ b ≤ 8 ⌝ }
     ensures { λ r. ⌜ (r .bits ≡ b) × IsRadix r ⌝ }
 {

@@ -1,5 +1,6 @@
 // Level codes: the values of one level and the bytes of its part.
 mod choosing; // the code with fewest bits
+mod decoding; // all values of a level at once
 mod encoding; // a level's part, written
 mod fetching; // one value, from the part alone
 mod kinds; // what a code byte says
@@ -10,6 +11,7 @@ mod writing; // bits into a buffer, one after the other
 
 pub use choosing::Choice;
 pub use choosing::choose;
+pub use decoding::decode;
 pub use encoding::copy_values;
 pub use encoding::encode;
 pub use fetching::Found;

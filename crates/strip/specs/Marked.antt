@@ -8,7 +8,7 @@ use Prim.Native.Nat.{ℕ, _+_}
 use lib.Dec.{eqb}
 use lib.ListN.{length, take, set, replicate}
 use Rattle.codes.specs.Lists.{same}
-use Rattle.codes.specs.Bits.{bits, number, sum, fixed, bytesOf, padded}
+use Rattle.codes.specs.Bits.{bits, number, sum, fixed, numbers, padded}
 use Rattle.codes.specs.Codes.{kindOf, rest, layers, kindBits}
 use Rattle.codes.specs.Choice.{widthIn, widest, bestChunked, chosen}
 use Rattle.codes.specs.Fetch.{fixedAt, fetchLayers, chunkedAt, fetched}
@@ -178,7 +178,7 @@ all [] = true
 all (c ∷ cs) = passes c && all cs
 
 pub marked-pass : all marked ≡ true
-unfolding bits number sum fixed bytesOf padded kindOf rest layers kindBits widthIn widest bestChunked chosen fixedAt fetchLayers chunkedAt fetched height
+unfolding bits number sum fixed numbers padded kindOf rest layers kindBits widthIn widest bestChunked chosen fixedAt fetchLayers chunkedAt fetched height
     rootPlace childOf stretchIn stretch rank ordered timeOf timeAbove stored storedFrom partOf fetchedAt nodeTimeIn nodeTime walkIn walk met toward lastOf
     accessAnswer remember targetFrom dropped sweepFrom firstLower verdict endAfter filled laidOut codeFor partFor joined stripOf codeTests opening packOf packOutput
     accessOf searchOf upToOf sweepOf sweepOutput timesFrom positionsTests listIn checkOf plainList unpackOf unpackOutput repeatFrom repeatOf stepOf nextOf

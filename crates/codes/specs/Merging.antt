@@ -1,0 +1,31 @@
+-- What the functions that decode promise each other. The merge of a layer goes from the last value to the first, in the buffer where
+-- the values of the layers after stand at the front.
+use mathlib.Core.Path.{_≡_}
+use mathlib.Core.Bool.{Bool, true, false}
+use mathlib.Core.List.{List}
+use Prim.Native.Nat.{ℕ, _-_, _^_, _≤_, _<_}
+use lib.ListN.{length, take, drop, getD}
+use Rattle.codes.specs.Bits.{sum, bitsOf}
+use Rattle.codes.specs.Decode.{Decoded, all, undecoded, merged}
+
+-- the continuation bits of the layer of n values that begins at bit `at`, and all bits from its chunks on
+abbrev pub continuationsAt : List ℕ → ℕ → ℕ → List ℕ
+continuationsAt bytes at n = take n (drop at (bitsOf bytes))
+
+abbrev pub chunksAt : List ℕ → ℕ → ℕ → List ℕ
+chunksAt bytes at n = drop n (drop at (bitsOf bytes))
+
+-- the first n leave room for b bits more in a value
+abbrev pub Small : ℕ → List ℕ → ℕ → Type 0
+Small b vs n = (q : ℕ) → q < n → getD vs q 0 < 2 ^ (32 - b)
+
+-- the values from i on are merged, and the first `kept` of the rests are not used yet
+pub record Merging (b : ℕ) (ms bs rests vs : List ℕ) (i kept : ℕ) : Type 0 where
+  pub ones : kept ≡ sum (take i ms)
+  pub unused : (q : ℕ) → q < kept → getD vs q 0 ≡ getD rests q 0
+  pub done : (q : ℕ) → i ≤ q → q < length ms → getD vs q 0 ≡ getD (merged b ms bs rests) q 0
+
+-- an answer and a buffer's content, by what decoding finds
+abbrev pub Says : Decoded → Bool → List ℕ → Type 0
+Says (all vs) r now = (r ≡ true) × (now ≡ vs)
+Says undecoded r now = r ≡ false

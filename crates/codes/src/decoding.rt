@@ -1,0 +1,176 @@
+// All values of a level at once, from the level's part alone.
+use super::encoding::clear;
+use super::kinds::Kind;
+use super::kinds::kind_of;
+use super::layering::Radix;
+use super::layering::radix_of;
+use super::reading::count_ones;
+use super::reading::least;
+use super::reading::low_bits;
+use super::reading::read;
+use super::writing::wide_value;
+ghost use mathlib.Core.Path.{_≡_};
+ghost use mathlib.Core.List.{List};
+ghost use Prim.Native.Nat.{ℕ, _+_, _-_, _*_, _^_, _<_, _≤_};
+ghost use lib.ListN.{length, take, drop};
+ghost use Rattle.codes.specs.Bits.{sum, bitsOf};
+ghost use Rattle.codes.specs.Radix.{IsRadix};
+ghost use Rattle.codes.specs.Decode.{merged, below, decodedLayers, kindDecoded, decoded, isDecoded, decodedOr0};
+ghost use Rattle.codes.specs.Merging.{continuationsAt, chunksAt, Small, Merging, Says};
+ghost use Rattle.codes.specs.declared.kinds.Kind.the-variants.{Fixed};
+
+// A value of 32 bits has at most 32 chunks.
+const LAYERS: usize = 32;
+
+// The values of a fixed code of width `w`.
+fn decode_fixed(values: &mut [u32], part: &[u8], w: usize) -> bool
+    requires { ⌜ (w ≤ 32) × (length (now values) < 2 ^ 32) × (length (now part) < 2 ^ 32) ⌝ }
+    ensures { λ r. ⌜ Says (kindDecoded (Fixed w) (length (now (values .entry))) (bitsOf (now (part .entry)))) r (now (values .exit)) ⌝ }
+{
+    let n = values.len();
+    if part.len() * 8 < n * w {
+        return false;
+    }
+    if w == 0 {
+        clear(values, n);
+        return true;
+    }
+    let mut i: usize = 0;
+    while i < n {
+        values[i] = read(part, i * w, w) as u32;
+        i += 1;
+    }
+    true
+}
+
+// Whether the first `n` values are below 2 to the power of 32 - `b`, so that b bits more leave them values.
+fn all_small(values: &[u32], n: usize, b: usize) -> bool
+    requires { ⌜ (1 ≤ b) × (b ≤ 8) × (n ≤ length (now values)) ⌝ }
+    ensures { λ r. ⌜ r ≡ below (2 ^ (32 - b)) (take n (now (values .entry))) ⌝ }
+{
+    let limit = 1u32 << (32 - b);
+    let mut i: usize = 0;
+    while i < n {
+        if values[i] >= limit {
+            return false;
+        }
+        i += 1;
+    }
+    true
+}
+
+// Merges `k` values of the layer from value `from` on, the last first: a value is its chunk and, where its continuation bit is 1, the
+// last rest that is not used yet above that. The bits of all k are read at once. Gives how many rests are left.
+fn merge_group(
+    values: &mut [u32],
+    part: &[u8],
+    radix: Radix,
+    at: usize,
+    n: usize,
+    from: usize,
+    k: usize,
+    kept: usize,
+) -> usize
+    requires { ⌜ (1 ≤ radix .bits) × (radix .bits ≤ 8) × IsRadix radix × (1 ≤ k) × (k * radix .bits ≤ 56) × (from + k ≤ n) ⌝ }
+    requires { ⌜ (n ≤ length (now values)) × (at + n + n * radix .bits ≤ length (now part) * 8) × (length (now part) < 2 ^ 32) ⌝ }
+    requires { ⌜ (kept ≡ sum (take (from + k) (continuationsAt (now part) at n))) × Small (radix .bits) (now values) kept ⌝ }
+    ensures { λ r. ⌜ ((rests : List ℕ)
+        → Merging (radix .bits) (continuationsAt (now (part .entry)) at n) (chunksAt (now (part .entry)) at n) rests (now (values .entry)) (from + k) kept
+        → Merging (radix .bits) (continuationsAt (now (part .entry)) at n) (chunksAt (now (part .entry)) at n) rests (now (values .exit)) from r) ⌝ }
+{
+    let b = radix.bits;
+    let power = radix.power;
+    let mut mores = read(part, at + from, k);
+    let mut chunks = read(part, at + n + from * b, k * b);
+    let mut kept = kept;
+    let mut j = k;
+    while j > 0 {
+        j -= 1;
+        let more = mores % 2;
+        kept -= more as usize;
+        let above = wide_value(values[kept]) * more;
+        values[from + j] = (above * power + low_bits(chunks, b)) as u32;
+        mores = mores / 2;
+        chunks = chunks >> b;
+    }
+    kept
+}
+
+// Merges the layer of `n` values that begins at bit `at` with the `rests`, the values of the layers after it, which stand at the front.
+// It goes from the last value to the first, so that no rest is lost before it is used.
+fn merge(values: &mut [u32], part: &[u8], b: usize, at: usize, n: usize, rests: usize)
+    requires { ⌜ (1 ≤ b) × (b ≤ 8) × (n ≤ length (now values)) × (length (now part) < 2 ^ 32) × (at + n + n * b ≤ length (now part) * 8) ⌝ }
+    requires { ⌜ (rests ≡ sum (continuationsAt (now part) at n)) × Small b (now values) rests ⌝ }
+    ensures { λ r. ⌜ take n (now (values .exit)) ≡ merged b (continuationsAt (now (part .entry)) at n) (chunksAt (now (part .entry)) at n) (take rests (now (values .entry))) ⌝ }
+{
+    let radix = radix_of(b);
+    // As many as one read can have, wherever in a byte it begins.
+    let room = 56 / b;
+    let mut kept = rests;
+    let mut i = n;
+    while i > 0 {
+        let k = least(i, room);
+        i -= k;
+        kept = merge_group(values, part, radix, at, n, i, k, kept);
+    }
+}
+
+// The `n` values of the layers from bit `at` on, which may be `layers`.
+fn decode_layers(
+    values: &mut [u32],
+    part: &[u8],
+    b: usize,
+    at: usize,
+    n: usize,
+    layers: usize,
+) -> bool
+    requires { ⌜ (1 ≤ b) × (b ≤ 8) × (n ≤ length (now values)) × (n < 2 ^ 32) × (length (now part) < 2 ^ 32) × (at ≤ length (now part) * 8) ⌝ }
+    ensures { λ r. ⌜ Says (decodedLayers layers b n (drop at (bitsOf (now (part .entry))))) r (take n (now (values .exit))) ⌝ }
+{
+    if n == 0 {
+        return true;
+    }
+    if layers == 0 {
+        return false;
+    }
+    if part.len() * 8 - at < n + n * b {
+        return false;
+    }
+    let rests = count_ones(part, at, at + n);
+    if !decode_layers(values, part, b, at + n + n * b, rests, layers - 1) {
+        return false;
+    }
+    if !all_small(values, rests, b) {
+        return false;
+    }
+    merge(values, part, b, at, n, rests);
+    true
+}
+
+// The values of a level in code `code`.
+fn decode_kind(values: &mut [u32], part: &[u8], code: u8) -> bool
+    requires { ⌜ (length (now values) < 2 ^ 32) × (length (now part) < 2 ^ 32) ⌝ }
+    ensures { λ r. ⌜ Says (decoded code (length (now (values .entry))) (now (part .entry))) r (now (values .exit)) ⌝ }
+{
+    let n = values.len();
+    let kind = kind_of(code);
+    match kind {
+        Kind::Fixed(w) => decode_fixed(values, part, w),
+        Kind::Chunked(b) => decode_layers(values, part, b, 0, n, LAYERS),
+        Kind::Refused => false,
+    }
+}
+
+// Writes the values of a level in code `code`, of which there are as many as entries. Where they are not decoded, the entries are 0.
+pub fn decode(values: &mut [u32], part: &[u8], code: u8) -> bool
+    requires { ⌜ (length (now values) < 2 ^ 32) × (length (now part) < 2 ^ 32) ⌝ }
+    ensures { λ r. ⌜ r ≡ isDecoded (decoded code (length (now (values .entry))) (now (part .entry))) ⌝ }
+    ensures { λ r. ⌜ now (values .exit) ≡ decodedOr0 (length (now (values .entry))) (decoded code (length (now (values .entry))) (now (part .entry))) ⌝ }
+{
+    let n = values.len();
+    if decode_kind(values, part, code) {
+        return true;
+    }
+    clear(values, n);
+    false
+}
