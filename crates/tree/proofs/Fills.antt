@@ -1,14 +1,15 @@
 -- What filling the buffer node by node leaves in it.
 use mathlib.Core.Path.{_≡_, refl, sym, ap, _∙_}
 use mathlib.Core.Logic.{inl, inr}
-use mathlib.Core.Bool.{Bool, true, false}
+use mathlib.Core.Bool.{Bool, true, false, cond}
 use mathlib.Core.List.{List, _++_}
 use Prim.Native.Nat.{ℕ, suc, _+_, _-_, _*_, _≤_, _<_}
 use native.Mathlib.Decide.{decLt, ℕ-discrete}
 use native.Mathlib.Omega.{arith}
 use lib.ListN.{length, getD, drop, set, length-set, length-append, length-drop, List·getD-append}
 use lib.Seq.{ext-getD, getD-append-add, getD-drop, getD-set-same, getD-set-other}
-use Rattle.tree.specs.Shape.{rootPlace, childOf}
+use Rattle.codes.specs.Choice.{widthIn}
+use Rattle.tree.specs.Shape.{rootPlace, childOf, sideOf, height}
 use Rattle.tree.specs.Stored.{timeOf, timeAbove, stored, storedValues}
 use Rattle.tree.specs.Standing.{StretchIs}
 use Rattle.tree.specs.Filled.{Under, here, below, Correct, Filled}
@@ -113,6 +114,15 @@ module _ (xs : List ℕ) {v start pins : ℕ} (one : 1 ≤ v) (e : StretchIs (le
   unfolding childOf
   fill-leaf p =
       past-nodes (length xs) (2 * v) (omega arith) (rw (is-child false (length xs) one e, p) (omega (arith, place-small 1 (omega arith))))
+
+  -- the children of a node with three pins have one each
+  pub three : (right : Bool) → pins ≡ 3 → StretchIs (length xs) (childOf right v) (cond right (start + 2) start) 1
+  unfolding rootPlace height widthIn
+  three right p = is-child right (length xs) one e ∙ rw p (side right)
+    where
+      side : (right : Bool) → sideOf right (record { start = start; pins = 3 }) ≡ record { start = cond right (start + 2) start; pins = 1 }
+      side true = refl
+      side false = refl
 
 pub above-side : (right : Bool) (xs : List ℕ) (v : ℕ) → 1 ≤ v → timeAbove xs (childOf right v) ≡ timeOf xs v
 above-side right xs v h = above-child xs (childOf right v) (omega (arith, child-bounds right v)) ∙ rw (parent-of right v)

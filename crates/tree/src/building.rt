@@ -4,12 +4,12 @@ use super::shape::root_place;
 use codes::least;
 ghost use mathlib.Core.Path.{_≡_};
 ghost use mathlib.Core.List.{_++_};
-ghost use Prim.Native.Nat.{_+_, _%_, _≤_};
+ghost use Prim.Native.Nat.{_+_, _-_, _%_, _≤_, _<_};
 ghost use lib.Dec.{T};
-ghost use lib.ListN.{length, drop};
+ghost use lib.ListN.{length, drop, getD, set};
 ghost use Rattle.tree.specs.Shape.{height};
 ghost use Rattle.tree.specs.Lists.{ordered};
-ghost use Rattle.tree.specs.Stored.{difference, timeAbove, storedValues};
+ghost use Rattle.tree.specs.Stored.{difference, timeOf, timeAbove, stored, storedValues};
 ghost use Rattle.tree.specs.Levels.{levelValues};
 ghost use Rattle.tree.specs.Standing.{StretchIs};
 ghost use Rattle.tree.specs.Filled.{Filled};
@@ -27,8 +27,21 @@ fn stored_value(v: usize, above: u32, time: u32) -> u32
     }
 }
 
+// Fills the entry of node v, whose time stands at position `at`, and gives that time. The time of its parent is `above`.
+fn fill_node(values: &mut [u32], times: &[u32], at: usize, v: usize, above: u32) -> u32
+    requires { ⌜ T (ordered (now times)) ⌝ }
+    requires { ⌜ (length (now times) ≤ length (now values)) × (1 ≤ v) × (v ≤ length (now times)) × (at < length (now times)) ⌝ }
+    requires { ⌜ (getD (now times) at 0 ≡ timeOf (now times) v) × (timeAbove (now times) v ≡ above) ⌝ }
+    ensures { λ r. ⌜ r ≡ timeOf (now (times .entry)) v ⌝ }
+    ensures { λ r. ⌜ now (values .exit) ≡ set (now (values .entry)) (v - 1) (stored (now (times .entry)) v) ⌝ }
+{
+    let time = times[at];
+    values[v - 1] = stored_value(v, above, time);
+    time
+}
+
 // Fills the entries of node v, with the stretch of `pins` from `start` on under it, and of the nodes below it. The time of its
-// parent is `above`.
+// parent is `above`. Two leaves are filled with their parent, which saves most calls.
 fn fill(values: &mut [u32], times: &[u32], start: usize, pins: usize, v: usize, above: u32)
     requires { ⌜ T (ordered (now times)) ⌝ }
     requires { ⌜ (length (now times) ≤ length (now values)) × (1 ≤ v) ⌝ }
@@ -39,10 +52,13 @@ fn fill(values: &mut [u32], times: &[u32], start: usize, pins: usize, v: usize, 
         return;
     }
     let place = root_place(pins);
-    let at = start + place - 1;
-    let time = times[at];
-    values[v - 1] = stored_value(v, above, time);
+    let time = fill_node(values, times, start + place - 1, v, above);
     if pins == 1 {
+        return;
+    }
+    if pins == 3 {
+        fill_node(values, times, start, 2 * v, time);
+        fill_node(values, times, start + 2, 2 * v + 1, time);
         return;
     }
     fill(values, times, start, place - 1, 2 * v, time);
