@@ -1,5 +1,5 @@
 -- How many values have a width, and how many have more bits than a width.
-use mathlib.Core.Path.{_≡_, refl, sym, ap}
+use mathlib.Core.Path.{_≡_, refl, sym, ap, _∙_}
 use mathlib.Core.Bool.{Bool, true, false, cond}
 use mathlib.Core.List.{List, [], _∷_, _++_}
 use Prim.Native.Nat.{ℕ, zero, suc, _+_, _-_, _/_, _^_, _≤_, _<_}
@@ -7,7 +7,7 @@ use native.Mathlib.Nat.{lt-of-not-le, zero-div}
 use native.Mathlib.Numerals.{add-one}
 use native.Mathlib.Omega.{arith}
 use lib.Dec.{eqb, ltb}
-use lib.ListN.{length, take, set, getD, List·getD-eq-default}
+use lib.ListN.{length, take, drop, set, getD, take-append-drop, List·getD-eq-default}
 use lib.Pow.{pow-pos, shr-shr}
 use lib.Seq.{take-suc, getD-set-same, getD-set-other}
 use borrow.Author.Tests.{eq-eqb, eqb-true, eqb-false, ltb-true, ltb-false}
@@ -89,6 +89,10 @@ unfolding tally
 tally-append t [] ys = omega arith
 tally-append t (x ∷ xs) ys = omega (arith, tally-append t xs ys)
 
+-- two halves, and one value more where there is one
+pub tally-halves : (t half : ℕ) (vs : List ℕ) → tally t vs ≡ tally t (take half vs) + tally t (drop half vs)
+tally-halves t half vs = ap (tally t) (sym (take-append-drop half vs)) ∙ tally-append t (take half vs) (drop half vs)
+
 -- one value more, counted at its width
 pub tally-more : (counts vs : List ℕ) (i w : ℕ) → i < length vs → w ≡ width (getD vs i 0) → w < length counts
     → ((t : ℕ) → getD counts t 0 ≡ tally t (take i vs))
@@ -103,13 +107,13 @@ tally-more counts vs i w h q l e t = rw (add-one i, take-suc vs i 0 h, tally-app
 -- ---- the counts in an array
 
 -- one entry more, from the one above it
-pub measured-more : (over counts vs : List ℕ) (t : ℕ) → 0 < t → t ≤ 32 → length over ≡ 33 → Tallied vs counts
+pub measured-more : (over first second vs : List ℕ) (t : ℕ) → 0 < t → t ≤ 32 → length over ≡ 33 → Tallied vs first second
     → ((u : ℕ) → t ≤ u → u ≤ 32 → getD over u 0 ≡ length (rest u vs))
-    → (u : ℕ) → t - 1 ≤ u → u ≤ 32 → getD (set over (t - 1) (getD over t 0 + getD counts t 0)) u 0 ≡ length (rest u vs)
-measured-more over counts vs t l k n h e u m j = go (eqb u (t - 1)) refl
+    → (u : ℕ) → t - 1 ≤ u → u ≤ 32 → getD (set over (t - 1) (getD over t 0 + (getD first t 0 + getD second t 0))) u 0 ≡ length (rest u vs)
+measured-more over first second vs t l k n h e u m j = go (eqb u (t - 1)) refl
   where
     x : ℕ
-    x = getD over t 0 + getD counts t 0
+    x = getD over t 0 + (getD first t 0 + getD second t 0)
 
     go : (s : Bool) → eqb u (t - 1) ≡ s → getD (set over (t - 1) x) u 0 ≡ length (rest u vs)
     go true p =

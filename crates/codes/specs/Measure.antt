@@ -13,9 +13,9 @@ unfoldable pub tally : ℕ → List ℕ → ℕ
 tally t [] = 0
 tally t (v ∷ vs) = cond (eqb (width v) t) 1 0 + tally t vs
 
--- counts[t] of the values have width t
-pub record Tallied (vs counts : List ℕ) : Type 0 where
-  pub each : (t : ℕ) → t ≤ 32 → getD counts t 0 ≡ tally t vs
+-- of the values first[t] and second[t] more have width t
+pub record Tallied (vs first second : List ℕ) : Type 0 where
+  pub each : (t : ℕ) → t ≤ 32 → getD first t 0 + getD second t 0 ≡ tally t vs
   pub within : Within 32 vs
 
 -- over[t] of the values have more than t bits

@@ -14,12 +14,12 @@ use Rattle.codes.proofs.measuring.sums.Statement.{statement}
 use Rattle.codes.proofs.measuring.sums.Tie as tie
 
 abbrev Inv-loop : tie.InvT-loop
-Inv-loop counts over₀ t₀ over t =
+Inv-loop first second over₀ t₀ over t =
     (t ≤ 32) × (length over ≡ 33) × (getD over t 0 ≤ (32 - t) * 2 ^ 32)
-    × ((vs : List ℕ) → Tallied vs counts → (u : ℕ) → t ≤ u → u ≤ 32 → getD over u 0 ≡ length (rest u vs))
+    × ((vs : List ℕ) → Tallied vs first second → (u : ℕ) → t ≤ u → u ≤ 32 → getD over u 0 ≡ length (rest u vs))
 
 abbrev μ-loop : tie.MeasureT-loop
-μ-loop counts over₀ t₀ over t = t
+μ-loop first second over₀ t₀ over t = t
 
 loop-holds : tie.Need-loop-holds Inv-loop μ-loop
 loop-holds c =
@@ -40,11 +40,20 @@ array-read-over-2 c = omega arith
 add-over : tie.Need-add-over Inv-loop μ-loop
 add-over c = omega (arith, c .before .before .pre (c .before .loop .t))
 
+add-over-2 : tie.Need-add-over-2 Inv-loop μ-loop
+add-over-2 c = omega (arith, c .before .before .pre (c .before .loop .t))
+
 sub-over : tie.Need-sub-over Inv-loop μ-loop
 sub-over c = omega arith
 
 mul-over-3 : tie.Need-mul-over-3 Inv-loop μ-loop
 mul-over-3 c = omega arith
+
+array-read-over-3 : tie.Need-array-read-over-3 Inv-loop μ-loop
+array-read-over-3 c = omega arith
+
+mul-over-4 : tie.Need-mul-over-4 Inv-loop μ-loop
+mul-over-4 c = omega arith
 
 array-write-over : tie.Need-array-write-over Inv-loop μ-loop
 array-write-over c = omega arith
@@ -58,12 +67,13 @@ loop-less c = omega arith
 loop-again : tie.Need-loop-again Inv-loop μ-loop
 loop-again c =
     let l = c .before .loop in
-    let counts = c .before .before .args .t1 in
-    let x = getD (l .over) (l .t) 0 + getD counts (l .t) 0 in (
+    let first = c .before .before .args .t1 in
+    let second = c .before .before .args .t2 in
+    let x = getD (l .over) (l .t) 0 + (getD first (l .t) 0 + getD second (l .t) 0) in (
       omega arith,
       length-set (l .over) (l .t - 1) x ∙ l .inv .1,
       rw (getD-set-same (l .over) (l .t - 1) x 0 (omega arith)) (omega (arith, c .before .before .pre (l .t))),
-      λ vs h. measured-more (l .over) counts vs (l .t) (omega arith) (omega arith) (l .inv .1) h (l .inv .3 vs h),
+      λ vs h. measured-more (l .over) first second vs (l .t) (omega arith) (omega arith) (l .inv .1) h (l .inv .3 vs h),
     )
 
 returns : tie.Need-returns Inv-loop μ-loop
@@ -80,9 +90,12 @@ sums-spec =
     array-read-over
     mul-over-2
     array-read-over-2
-    add-over
-    sub-over
     mul-over-3
+    array-read-over-3
+    add-over
+    add-over-2
+    sub-over
+    mul-over-4
     array-write-over
     sub-t
     loop-less
