@@ -21,6 +21,7 @@ use Rattle.tree.proofs.Promises.{height-least, stored-levels, listing-finds}
 use Rattle.strip.specs.Lists.{firstLower}
 use Rattle.strip.specs.Outcomes.{Outcome, gives, refuses, test, verdict}
 use Rattle.strip.specs.Layout.{maxBytes}
+use Rattle.strip.specs.Written.{fewPins, roomOf}
 use Rattle.strip.specs.Image.{image}
 use Rattle.strip.specs.Calls.{roomFor, written, listIn, imageTest, checkIn, repeatFrom}
 use Rattle.strip.specs.Read.{fallsTest, unpackIn, gapOr}
@@ -126,11 +127,18 @@ module _ (s : List ℕ) (levels : Levels) where
 
 -- ---- the image
 
--- there is room for it in the largest strip, and so in what has as much room
-module _ (xs : List ℕ) (few : length xs < 2 ^ 16) (within : Within 32 xs) (room : ℕ) (enough : room ≡ maxBytes) where
+-- the room of a short list, and of any
+pub few-room : (n : ℕ) → n ≤ fewPins → roomOf n ≤ 4149
+few-room n h = omega (arith, height-least .least n 10 (omega arith))
+
+pub any-room : (n : ℕ) → n < 2 ^ 16 → roomOf n ≤ maxBytes
+any-room n h = omega (arith, height-fits n h)
+
+-- it fits where there is room for any list as long
+module _ (xs : List ℕ) (few : length xs < 2 ^ 16) (within : Within 32 xs) (room : ℕ) (enough : roomOf (length xs) ≤ room) where
   image-fits : length (image xs) ≤ room
   image-fits =
-      omega (arith, height-fits (length xs) (omega arith), rw (stored-levels .count xs) at (strip-small (storedValues xs) (stored-levels .within 32 xs within)))
+      omega (arith, rw (stored-levels .count xs) at (strip-small (storedValues xs) (stored-levels .within 32 xs within)))
 
   packs-whole : roomFor room (length (image xs)) ≡ gives (length (image xs))
   unfolding verdict

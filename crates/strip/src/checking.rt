@@ -1,4 +1,6 @@
 // Check and unpack, for a strip that is open.
+use super::layout::FEW_BYTES;
+use super::layout::FEW_PINS;
 use super::lists::first_lower;
 use super::packing::pack_list;
 use super::refusals::Refusal;
@@ -22,6 +24,7 @@ ghost use Rattle.tree.specs.Buffers.{replaced};
 ghost use Rattle.strip.specs.Outcomes.{test, verdict};
 ghost use Rattle.strip.specs.Image.{image};
 ghost use Rattle.strip.specs.Calls.{roomFor, written, listIn, checkIn, checked};
+ghost use Rattle.strip.specs.Written.{fewPins, roomOf};
 ghost use Rattle.strip.specs.Read.{fallsTest, unpackIn};
 
 // Whether two runs of bytes are the same.
@@ -42,23 +45,22 @@ fn same_bytes(a: &[u8], b: &[u8]) -> bool
     true
 }
 
-// Whether the bytes are the image of an ordered list.
-fn is_image(s: &[u8], times: &[u32]) -> bool
-    requires { ⌜ T (ordered (now times)) × (length (now times) < 2 ^ 16) ⌝ }
+// Whether the bytes are the image of an ordered list, which is packed into the lent room.
+fn is_image(room: &mut [u8], s: &[u8], times: &[u32]) -> bool
+    requires { ⌜ T (ordered (now times)) × (length (now times) < 2 ^ 16) × (roomOf (length (now times)) ≤ length (now room)) ⌝ }
     ensures { λ r. ⌜ r ≡ same (image (now (times .entry))) (now (s .entry)) ⌝ }
 {
-    let mut out = [0u8; Strip::MAX_BYTES];
-    let packed = pack_list(&mut out, times);
+    let packed = pack_list(room, times);
     match packed {
-        Packed::Length(n) => same_bytes(&out[..n], s),
+        Packed::Length(n) => same_bytes(&room[..n], s),
         // There is room for any image.
         Packed::Refused(_) => false,
     }
 }
 
 // Tests 11 and 12, for a strip with these times.
-fn check_list(s: &[u8], times: &[u32]) -> Checked
-    requires { ⌜ length (now times) < 2 ^ 16 ⌝ }
+fn check_list(room: &mut [u8], s: &[u8], times: &[u32]) -> Checked
+    requires { ⌜ (length (now times) < 2 ^ 16) × (roomOf (length (now times)) ≤ length (now room)) ⌝ }
     ensures { λ r. ⌜ checked r ≡ verdict (fallsTest (now (times .entry)) ∷ test (not (same (image (now (times .entry))) (now (s .entry)))) 12 0 ∷ []) (length (now (times .entry))) ⌝ }
 {
     let n = times.len();
@@ -66,7 +68,7 @@ fn check_list(s: &[u8], times: &[u32]) -> Checked
     if lower < n {
         return Checked::Refused(Refusal::TimesFall(lower));
     }
-    if is_image(s, times) {
+    if is_image(room, s, times) {
         return Checked::Pins(n);
     }
     Checked::Refused(Refusal::Image)
@@ -83,19 +85,51 @@ fn check_refused(times: &[u32], why: tree::Refusal) -> Checked
     Checked::Refused(of_walk(why))
 }
 
-// Checks a strip that is open. Its times, as far as access is not refused, are left in `times`.
-pub(crate) fn check_open(times: &mut [u32], s: &[u8], levels: Levels) -> Checked
+// Checks a strip that is open. Its times, as far as access is not refused, are left in `times`, and its list is packed into `room`.
+fn check_in(times: &mut [u32], room: &mut [u8], s: &[u8], levels: Levels) -> Checked
     requires { ⌜ Fits levels (now s) ⌝ }
-    requires { ⌜ levels .pins ≤ length (now times) ⌝ }
+    requires { ⌜ (levels .pins ≤ length (now times)) × (roomOf (levels .pins) ≤ length (now room)) ⌝ }
     ensures { λ r. ⌜ checked r ≡ checkIn (now (s .entry)) levels ⌝ }
     ensures { λ r. ⌜ now (times .exit) ≡ replaced (now (times .entry)) 0 (listIn (now (s .entry)) levels) ⌝ }
 {
     let n = levels.pins;
     let listed = tree::list(times, s, levels);
     match listed {
-        Listed::All => check_list(s, &times[..n]),
+        Listed::All => check_list(room, s, &times[..n]),
         Listed::Refused(i, why) => check_refused(&times[..i], why),
     }
+}
+
+// Checks a strip of few pins in short arrays.
+fn check_few(s: &[u8], levels: Levels) -> Checked
+    requires { ⌜ Fits levels (now s) ⌝ }
+    requires { ⌜ levels .pins ≤ fewPins ⌝ }
+    ensures { λ r. ⌜ checked r ≡ checkIn (now (s .entry)) levels ⌝ }
+{
+    let mut times = [0u32; FEW_PINS];
+    let mut room = [0u8; FEW_BYTES];
+    check_in(&mut times, &mut room, s, levels)
+}
+
+// Checks any strip in arrays for the longest.
+fn check_many(s: &[u8], levels: Levels) -> Checked
+    requires { ⌜ Fits levels (now s) ⌝ }
+    ensures { λ r. ⌜ checked r ≡ checkIn (now (s .entry)) levels ⌝ }
+{
+    let mut times = [0u32; Strip::MAX_PINS];
+    let mut room = [0u8; Strip::MAX_BYTES];
+    check_in(&mut times, &mut room, s, levels)
+}
+
+// Checks a strip that is open.
+pub(crate) fn check_open(s: &[u8], levels: Levels) -> Checked
+    requires { ⌜ Fits levels (now s) ⌝ }
+    ensures { λ r. ⌜ checked r ≡ checkIn (now (s .entry)) levels ⌝ }
+{
+    if levels.pins <= FEW_PINS {
+        return check_few(s, levels);
+    }
+    check_many(s, levels)
 }
 
 // Writes the list to the front of the output, where there is room.
@@ -111,16 +145,57 @@ fn put_list(out: &mut [u32], times: &[u32]) -> Checked
     Checked::Pins(n)
 }
 
+// Unpacks a strip that is open, in lent arrays.
+fn unpack_in(
+    out: &mut [u32],
+    times: &mut [u32],
+    room: &mut [u8],
+    s: &[u8],
+    levels: Levels,
+) -> Checked
+    requires { ⌜ Fits levels (now s) ⌝ }
+    requires { ⌜ (levels .pins ≤ length (now times)) × (roomOf (levels .pins) ≤ length (now room)) ⌝ }
+    ensures { λ r. ⌜ checked r ≡ unpackIn (now (s .entry)) (length (now (out .entry))) levels ⌝ }
+    ensures { λ r. ⌜ now (out .exit) ≡ written (unpackIn (now (s .entry)) (length (now (out .entry))) levels) (listIn (now (s .entry)) levels) (now (out .entry)) ⌝ }
+{
+    let result = check_in(times, room, s, levels);
+    match result {
+        Checked::Pins(n) => put_list(out, &times[..n]),
+        Checked::Refused(r) => Checked::Refused(r),
+    }
+}
+
+// Unpacks a strip of few pins in short arrays.
+fn unpack_few(out: &mut [u32], s: &[u8], levels: Levels) -> Checked
+    requires { ⌜ Fits levels (now s) ⌝ }
+    requires { ⌜ levels .pins ≤ fewPins ⌝ }
+    ensures { λ r. ⌜ checked r ≡ unpackIn (now (s .entry)) (length (now (out .entry))) levels ⌝ }
+    ensures { λ r. ⌜ now (out .exit) ≡ written (unpackIn (now (s .entry)) (length (now (out .entry))) levels) (listIn (now (s .entry)) levels) (now (out .entry)) ⌝ }
+{
+    let mut times = [0u32; FEW_PINS];
+    let mut room = [0u8; FEW_BYTES];
+    unpack_in(out, &mut times, &mut room, s, levels)
+}
+
+// Unpacks any strip in arrays for the longest.
+fn unpack_many(out: &mut [u32], s: &[u8], levels: Levels) -> Checked
+    requires { ⌜ Fits levels (now s) ⌝ }
+    ensures { λ r. ⌜ checked r ≡ unpackIn (now (s .entry)) (length (now (out .entry))) levels ⌝ }
+    ensures { λ r. ⌜ now (out .exit) ≡ written (unpackIn (now (s .entry)) (length (now (out .entry))) levels) (listIn (now (s .entry)) levels) (now (out .entry)) ⌝ }
+{
+    let mut times = [0u32; Strip::MAX_PINS];
+    let mut room = [0u8; Strip::MAX_BYTES];
+    unpack_in(out, &mut times, &mut room, s, levels)
+}
+
 // Unpacks a strip that is open.
 pub(crate) fn unpack_open(out: &mut [u32], s: &[u8], levels: Levels) -> Checked
     requires { ⌜ Fits levels (now s) ⌝ }
     ensures { λ r. ⌜ checked r ≡ unpackIn (now (s .entry)) (length (now (out .entry))) levels ⌝ }
     ensures { λ r. ⌜ now (out .exit) ≡ written (unpackIn (now (s .entry)) (length (now (out .entry))) levels) (listIn (now (s .entry)) levels) (now (out .entry)) ⌝ }
 {
-    let mut times = [0u32; Strip::MAX_PINS];
-    let result = check_open(&mut times, s, levels);
-    match result {
-        Checked::Pins(n) => put_list(out, &times[..n]),
-        Checked::Refused(r) => Checked::Refused(r),
+    if levels.pins <= FEW_PINS {
+        return unpack_few(out, s, levels);
     }
+    unpack_many(out, s, levels)
 }

@@ -1,4 +1,5 @@
 // Packing: the plan of an image, then the image where there is room for it.
+use super::layout::FEW_PINS;
 use super::layout::no_levels;
 use super::refusals::Refusal;
 use super::strip::Packed;
@@ -12,6 +13,7 @@ ghost use lib.ListN.{length};
 ghost use Rattle.tree.specs.Lists.{ordered};
 ghost use Rattle.strip.specs.Image.{planned, stripOf, image};
 ghost use Rattle.strip.specs.Calls.{packed, roomFor, written};
+ghost use Rattle.strip.specs.Written.{fewPins};
 
 // Where the levels of the image lie: each takes the code with fewest bits.
 fn plan(values: &[u32]) -> Levels
@@ -49,15 +51,48 @@ fn pack_values(out: &mut [u8], work: &mut [u32], values: &[u32]) -> Packed
     Packed::Length(end)
 }
 
-// Packs an ordered list, where the output has room. The values and what encoding works in are arrays for the longest list.
+// Packs an ordered list, where the output has room. The values stand in one lent array, and encoding works in another.
+fn pack_in(out: &mut [u8], values: &mut [u32], work: &mut [u32], times: &[u32]) -> Packed
+    requires { ⌜ T (ordered (now times)) × (length (now times) < 2 ^ 16) ⌝ }
+    requires { ⌜ (length (now times) ≤ length (now values)) × (length (now times) + 1 ≤ 2 * length (now work)) ⌝ }
+    ensures { λ r. ⌜ packed r ≡ roomFor (length (now (out .entry))) (length (image (now (times .entry)))) ⌝ }
+    ensures { λ r. ⌜ now (out .exit) ≡ written (roomFor (length (now (out .entry))) (length (image (now (times .entry))))) (image (now (times .entry))) (now (out .entry)) ⌝ }
+{
+    let n = times.len();
+    tree::construct(values, times);
+    pack_values(out, work, &values[..n])
+}
+
+// Packs a short list in short arrays.
+fn pack_few(out: &mut [u8], times: &[u32]) -> Packed
+    requires { ⌜ T (ordered (now times)) × (length (now times) ≤ fewPins) ⌝ }
+    ensures { λ r. ⌜ packed r ≡ roomFor (length (now (out .entry))) (length (image (now (times .entry)))) ⌝ }
+    ensures { λ r. ⌜ now (out .exit) ≡ written (roomFor (length (now (out .entry))) (length (image (now (times .entry))))) (image (now (times .entry))) (now (out .entry)) ⌝ }
+{
+    let mut values = [0u32; FEW_PINS];
+    let mut work = [0u32; FEW_PINS / 2 + 1];
+    pack_in(out, &mut values, &mut work, times)
+}
+
+// Packs any list in arrays for the longest.
+fn pack_many(out: &mut [u8], times: &[u32]) -> Packed
+    requires { ⌜ T (ordered (now times)) × (length (now times) < 2 ^ 16) ⌝ }
+    ensures { λ r. ⌜ packed r ≡ roomFor (length (now (out .entry))) (length (image (now (times .entry)))) ⌝ }
+    ensures { λ r. ⌜ now (out .exit) ≡ written (roomFor (length (now (out .entry))) (length (image (now (times .entry))))) (image (now (times .entry))) (now (out .entry)) ⌝ }
+{
+    let mut values = [0u32; Strip::MAX_PINS];
+    let mut work = [0u32; Strip::MAX_PINS / 2 + 1];
+    pack_in(out, &mut values, &mut work, times)
+}
+
+// Packs an ordered list, where the output has room. A short one does not pay for the longest.
 pub(crate) fn pack_list(out: &mut [u8], times: &[u32]) -> Packed
     requires { ⌜ T (ordered (now times)) × (length (now times) < 2 ^ 16) ⌝ }
     ensures { λ r. ⌜ packed r ≡ roomFor (length (now (out .entry))) (length (image (now (times .entry)))) ⌝ }
     ensures { λ r. ⌜ now (out .exit) ≡ written (roomFor (length (now (out .entry))) (length (image (now (times .entry))))) (image (now (times .entry))) (now (out .entry)) ⌝ }
 {
-    let n = times.len();
-    let mut values = [0u32; Strip::MAX_PINS];
-    let mut work = [0u32; Strip::MAX_PINS / 2 + 1];
-    tree::construct(&mut values, times);
-    pack_values(out, &mut work, &values[..n])
+    if times.len() <= FEW_PINS {
+        return pack_few(out, times);
+    }
+    pack_many(out, times)
 }

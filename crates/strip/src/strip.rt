@@ -213,10 +213,7 @@ impl Strip {
         let opening = opening_of(s);
         let status = opening.status;
         match status {
-            Status::Open => {
-                let mut times = [0u32; Strip::MAX_PINS];
-                check_open(&mut times, s, opening.levels)
-            }
+            Status::Open => check_open(s, opening.levels),
             Status::Refused(r) => Checked::Refused(r),
         }
     }

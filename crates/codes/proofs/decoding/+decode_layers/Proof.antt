@@ -1,14 +1,12 @@
 -- `decode_layers` meets its contract.
 use native.Mathlib.Omega.{arith}
-use mathlib.Core.Path.{_≡_, refl, sym, ap, _∙_}
-use mathlib.Core.List.{List}
-use mathlib.Core.Bool.{true, false}
-use Prim.Native.Nat.{ℕ, suc, _+_, _-_, _*_, _^_, _≤_, _<_}
+use mathlib.Core.Path.{_≡_, refl, sym, _∙_}
+use Prim.Native.Nat.{ℕ, suc, _+_, _-_, _*_, _^_, _<_}
 use native.Mathlib.Nat.{mul-le-mul-left}
-use lib.ListN.{length, take, drop, length-drop}
+use lib.ListN.{take, drop, length-drop}
 use lib.Seq.{length-take-le, getD-take}
-use Rattle.codes.specs.Bits.{sum, bitsOf}
-use Rattle.codes.specs.Decode.{all, undecoded, layered, decodedLayers}
+use Rattle.codes.specs.Bits.{bitsOf}
+use Rattle.codes.specs.Decode.{layered, decodedLayers}
 use Rattle.codes.proofs.Bits.{length-fixed}
 use Rattle.codes.proofs.Merges.{below-at}
 use Rattle.codes.proofs.Decodes.{layers-none, layers-stopped, layers-short, layers-at, says-no, says-yes, not-true, not-false}

@@ -2,14 +2,12 @@
 use native.Mathlib.Omega.{arith}
 use mathlib.Core.Path.{_≡_, refl, sym, ap, _∙_}
 use mathlib.Core.List.{List, _++_, append-nil}
-use mathlib.Core.Bool.{Bool, true, false}
-use Prim.Native.Nat.{ℕ, _+_, _-_, _*_, _^_, _≤_, _<_}
+use Prim.Native.Nat.{ℕ, _+_, _-_, _*_, _≤_, _<_}
 use native.Mathlib.Nat.{mul-le-mul-left, mul-le-mul-right}
 use lib.Pow.{pow-mono}
 use lib.ListN.{length, take, drop, getD, replicate, length-set}
 use lib.Seq.{drop-length}
-use Rattle.codes.specs.Bits.{bitsOf, number, numbers}
-use Rattle.codes.specs.Decode.{all, kindDecoded}
+use Rattle.codes.specs.Bits.{bitsOf, number}
 use Rattle.codes.proofs.Bits.{length-fixed}
 use Rattle.codes.proofs.Lists.{more}
 use Rattle.codes.proofs.Decodes.{fixed-decoded, fixed-undecoded, numbers-are, numbers-none}

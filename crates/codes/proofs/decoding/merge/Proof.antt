@@ -1,13 +1,13 @@
 -- `merge` meets its contract.
 use native.Mathlib.Omega.{arith}
-use mathlib.Core.Path.{_≡_, refl, sym, ap, _∙_}
+use mathlib.Core.Path.{_≡_, refl}
 use mathlib.Core.List.{List}
-use Prim.Native.Nat.{ℕ, _+_, _-_, _*_, _/_, _^_, _≤_, _<_}
+use Prim.Native.Nat.{ℕ, _+_, _-_, _*_, _/_, _≤_}
 use native.Mathlib.Nat.{div-mul-le-self, le-div-iff-mul-le, le-trans, mul-le-mul-right}
-use lib.ListN.{length, take, drop, getD, length-drop}
-use lib.Seq.{length-take-le, take-length, getD-take}
-use Rattle.codes.specs.Bits.{sum, bitsOf}
-use Rattle.codes.specs.Merging.{continuationsAt, chunksAt, Small, Merging}
+use lib.ListN.{length, take, drop, length-drop}
+use lib.Seq.{length-take-le, getD-take}
+use Rattle.codes.specs.Bits.{bitsOf}
+use Rattle.codes.specs.Merging.{continuationsAt, chunksAt, Merging}
 use Rattle.codes.proofs.Bits.{length-fixed, sum-take-add}
 use Rattle.codes.proofs.Merges.{merging-first, merging-last}
 use Rattle.codes.proofs.decoding.merge.Statement.{statement}

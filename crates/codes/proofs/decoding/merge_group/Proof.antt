@@ -14,7 +14,7 @@ use Rattle.codes.specs.Bits.{number, sum, bitsOf}
 use Rattle.codes.specs.Codes.{Within}
 use Rattle.codes.specs.Merging.{continuationsAt, chunksAt, Small, Merging}
 use Rattle.codes.proofs.Bits.{bits-fixed, length-fixed, within-take, within-drop, number-one, sum-le}
-use Rattle.codes.proofs.Words.{last-number, part-lt}
+use Rattle.codes.proofs.Words.{last-number}
 use Rattle.codes.proofs.Merges.{left, small-next, merging-next}
 use Rattle.codes.proofs.decoding.merge_group.Statement.{statement}
 use Rattle.codes.proofs.decoding.merge_group.Tie as tie

@@ -7,10 +7,8 @@ use Rattle.tree.proofs.building.fill_node.Reads as fill-node-reads
 use mathlib.Core.Path.{_≡_, refl, sym, _∙_}
 use mathlib.Core.Bool.{true, false}
 use Prim.Native.Nat.{ℕ, _+_, _-_, _*_, _≤_, _<_}
-use lib.ListN.{length, getD, set, length-set}
+use lib.ListN.{length}
 use Rattle.tree.specs.Shape.{childOf, rootPlace}
-use Rattle.tree.specs.Standing.{StretchIs}
-use Rattle.tree.specs.Stored.{timeOf, stored}
 use Rattle.tree.proofs.Heights.{place-in, place-small}
 use Rattle.tree.proofs.Stretches.{is-child}
 use Rattle.tree.proofs.Fills.{filled-none, filled-node, filled-leaf, fill-past, fill-node, fill-leaf, fill-time, three, above-side}

@@ -1,5 +1,5 @@
 -- `fill_node` meets its contract.
-use mathlib.Core.Path.{_≡_, ap, _∙_}
+use mathlib.Core.Path.{ap, _∙_}
 use Prim.Native.Nat.{_-_}
 use lib.ListN.{set}
 use Rattle.tree.specs.Stored.{stored}
