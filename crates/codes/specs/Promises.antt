@@ -1,5 +1,5 @@
 -- What is shown of the level codes besides each function's contract. proofs/Promises proves each, as
--- `round-trip`, `lengths`, `best-choice`, `code-known`, `least-width` and `decode-fetches`.
+-- `round-trip`, `lengths`, `best-choice`, `code-known`, `least-width`, `decode-fetches` and `decode-back`.
 use mathlib.Core.Path.{_≡_}
 use mathlib.Core.List.{List, _++_, map}
 use Prim.Native.Nat.{ℕ, _+_, _*_, _^_, _≤_, _<_}
@@ -54,3 +54,7 @@ pub record LeastWidth : Type 0 where
 abbrev pub DecodeFetches : Type 0
 DecodeFetches = (code n : ℕ) (bytes vs : List ℕ) → decoded code n bytes ≡ all vs
     → (length vs ≡ n) × ((j : ℕ) → j < n → fetched code n j bytes ≡ value (getD vs j 0))
+
+-- 7. By any code that holds the values, their part is decoded to them.
+abbrev pub DecodeBack : Type 0
+DecodeBack = (code : ℕ) (vs : List ℕ) → Holds (kindOf code) vs → decoded code (length vs) (part code vs) ≡ all vs
