@@ -7,23 +7,23 @@ use native.Mathlib.Nat.{le-refl}
 use native.Mathlib.Decide.{decLt}
 use native.Mathlib.Omega.{arith}
 use lib.Dec.{ltb}
-use lib.ListN.{getD}
+use lib.ListN.{length, getD}
 use borrow.Author.Tests.{lt-ltb, le-ltb}
 use Rattle.tree.specs.declared.shape.Stretch.{Stretch}
 use Rattle.tree.specs.declared.nodes.Levels.{Levels}
-use Rattle.tree.specs.declared.targets.Remembered.{Remembered}
+use Rattle.tree.specs.declared.targets.Point.{Point}
 use Rattle.tree.specs.Shape.{height, rootPlace, childOf, stretch}
 use Rattle.tree.specs.Levels.{Fits}
 use Rattle.tree.specs.Times.{Time, known, timesIn}
 use Rattle.tree.specs.Walks.{Answer, isBelow}
 use Rattle.tree.specs.Sweeps.{Sweep, dropped, positionThen, sweepFrom}
-use Rattle.tree.specs.Standing.{Stands}
-use Rattle.tree.specs.Remembering.{entries, keptIn, positionIn, positionBy, leftBy, Keeps, Resumes, Rests, startAt, targetIn, keptAfter}
+use Rattle.tree.specs.Standing.{rootOf, Stands}
+use Rattle.tree.specs.Remembering.{Remembered, remembered, entries, keptIn, positionIn, positionBy, leftBy, Keeps, Resumes, Rests, startAt, Between, droppedIn, targetIn, keptAfter}
 use Rattle.tree.proofs.Stretches.{stretch-child, rank-in}
 use Rattle.tree.proofs.Walks.{child-bounds, parent-of, height-child}
 use Rattle.tree.proofs.NodeFetches.{pins-bound}
-use Rattle.tree.proofs.Remembering.{keeps-few}
-use Rattle.tree.proofs.Steps.{stands-at}
+use Rattle.tree.proofs.Remembering.{keeps-few, resumes-root}
+use Rattle.tree.proofs.Steps.{stands-at, root-depth, stands-root}
 
 -- ---- how many are left
 
@@ -32,7 +32,7 @@ unfolding leftBy
 left-step times t zero h = absurd (omega arith)
 left-step times t (suc c) h = let e : suc c - 1 ≡ c = omega arith in rw e
 
-pub left-none : (times : List ℕ) (t c : ℕ) → c ≡ 0 → leftBy times t c ≡ c
+left-none : (times : List ℕ) (t c : ℕ) → c ≡ 0 → leftBy times t c ≡ c
 unfolding leftBy
 left-none times t c e = rw e
 
@@ -48,6 +48,12 @@ left-le times t (suc c) = go (ltb (getD times c 0) t) (left-le times t c)
 -- a sweep with k nodes opened, which goes on from what is remembered
 abbrev pub sweepOn : Levels → List ℕ → Remembered → Bool → ℕ → List ℕ → Sweep
 sweepOn levels s w first k ts = sweepFrom (levels .pins) (timesIn levels s) (startAt (levels .pins) first) (keptIn w) k ts
+
+-- the next target, with k nodes opened, leaves m nodes remembered and goes on from a point
+pub record GoesOn (levels : Levels) (s : List ℕ) (w : Remembered) (first : Bool) (t k m : ℕ) (from : Point) : Type 0 where
+  pub drops : droppedIn levels s w first t ≡ record { from = from .v; kept = entries (w .nodes) m }
+  pub stands : Stands levels s (from .v) (height (from .v) - 1) (from .here) (from .above)
+  pub resumes : Resumes levels s (remembered m (w .nodes) (w .times) (w .ranks)) (from .v) (from .here) k
 
 module _ (levels : Levels) (s : List ℕ) where
   abbrev n : ℕ
@@ -88,7 +94,7 @@ module _ (levels : Levels) (s : List ℕ) where
     pub dropped-none : (from : ℕ) → leftBy (w .times) t (w .count) ≡ w .count → dropped (isBelow read t) from (keptIn w) ≡ record { from = from; kept = keptIn w }
     dropped-none from e = dropped-in (w .count) (le-refl (w .count)) from ∙ rw (e, le-ltb (w .count) (w .count) (le-refl (w .count)))
 
-    pub dropped-some : (from m : ℕ) → m ≡ leftBy (w .times) t (w .count) → m < w .count
+    dropped-some : (from m : ℕ) → m ≡ leftBy (w .times) t (w .count) → m < w .count
         → dropped (isBelow read t) from (keptIn w) ≡ record { from = childOf true (getD (w .nodes) m 0); kept = entries (w .nodes) m }
     dropped-some from m e h = dropped-in (w .count) (le-refl (w .count)) from ∙ rw (← e, lt-ltb m (w .count) h)
 
@@ -128,7 +134,7 @@ module _ (levels : Levels) (s : List ℕ) where
     onward-in : (getD (w .ranks) m 0 + 1 ≤ positionIn (w .ranks) m n) × (positionIn (w .ranks) m n ≤ n)
     onward-in = (omega (arith, rank-before w (r .keeps) m h), position-le w (r .keeps) m (omega arith))
 
-    pub stands-onward : Stands levels s (childOf true node) (height (childOf true node) - 1) onward (getD (w .times) m 0)
+    stands-onward : Stands levels s (childOf true node) (height (childOf true node) - 1) onward (getD (w .times) m 0)
     stands-onward =
         let e = r .keeps .entry m h in
         let i = rank-in n node (e .one) (e .among) in
@@ -139,7 +145,7 @@ module _ (levels : Levels) (s : List ℕ) where
         (omega (arith, onward-in))
         (rw (parent-of true node) (e .time))
 
-    pub resumes-onward : Resumes levels s (record { count = m; nodes = w .nodes; times = w .times; ranks = w .ranks }) (childOf true node) onward k
+    resumes-onward : Resumes levels s (remembered m (w .nodes) (w .times) (w .ranks)) (childOf true node) onward k
     resumes-onward =
         let e = r .keeps .entry m h in
         record {
@@ -154,6 +160,25 @@ module _ (levels : Levels) (s : List ℕ) where
           few = omega (arith, r .few, position-falls w (r .keeps) (w .count) m (le-refl (w .count)) h);
         }
 
+    pub goes-onward : (first : Bool) (t : ℕ) → m ≡ leftBy (w .times) t (w .count)
+        → GoesOn levels s w first t k m (record { v = childOf true node; here = onward; above = getD (w .times) m 0 })
+    goes-onward first t e = record {
+      drops = dropped-some w (r .keeps) t (startAt n first) m e h;
+      stands = stands-onward;
+      resumes = resumes-onward;
+    }
+
+  -- ---- where the first target goes on
+
+  pub goes-root : (w : Remembered) (k t : ℕ) → Between levels s w true k → GoesOn levels s w true t k (w .count) (rootOf n)
+  goes-root w k t b =
+      let z = b .1 refl in
+      record {
+        drops = dropped-none w (b .0 .keeps) t 1 (left-none (w .times) t (w .count) (z .0));
+        stands = rw root-depth (stands-root levels s);
+        resumes = rw (z .1) (resumes-root levels s w (b .0 .keeps) (z .0));
+      }
+
   -- ---- a target of a sweep
 
   -- by what it answers
@@ -167,6 +192,9 @@ module _ (levels : Levels) (s : List ℕ) where
 pub record Onward (levels : Levels) (w : Remembered) (m : ℕ) : Type 0 where
   pub less : m < w .count
   pub under-16 : m < 16
+  pub in-nodes : m < length (w .nodes)
+  pub in-times : m < length (w .times)
+  pub in-ranks : m < length (w .ranks)
   pub node-in : getD (w .nodes) m 0 < 65536
   pub start-in : getD (w .ranks) m 0 + 1 ≤ positionIn (w .ranks) m (levels .pins)
   pub end-in : positionIn (w .ranks) m (levels .pins) < 65536
@@ -177,9 +205,13 @@ onward-bounds {levels} {s} {w} {k} {m} r f t e d =
     let h : m < w .count = omega (arith, left-le (w .times) t (w .count)) in
     let few = pins-bound levels s f in
     let i = onward-in levels s w k r m h in
+    let u : m < 16 = omega (arith, keeps-few levels s w f (r .keeps)) in
     record {
       less = h;
-      under-16 = omega (arith, keeps-few levels s w f (r .keeps));
+      under-16 = u;
+      in-nodes = rw (r .keeps .nodes-size) u;
+      in-times = rw (r .keeps .times-size) u;
+      in-ranks = rw (r .keeps .ranks-size) u;
       node-in = omega (arith, r .keeps .entry m h .among);
       start-in = i .0;
       end-in = omega arith;

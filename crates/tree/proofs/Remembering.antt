@@ -8,12 +8,10 @@ use native.Mathlib.Numerals.{add-one}
 use native.Mathlib.Decide.{decLt, ℕ-discrete}
 use native.Mathlib.Omega.{arith}
 use lib.Dec.{ltb}
-use lib.ListN.{getD, set, length-set, length-replicate}
+use lib.ListN.{length, getD, set, length-set}
 use lib.Seq.{getD-set-same, getD-set-other}
 use Rattle.tree.specs.declared.shape.Stretch.{Stretch}
 use Rattle.tree.specs.declared.nodes.Levels.{Levels}
-use Rattle.tree.specs.declared.targets.Remembered.{Remembered}
-use Rattle.tree.specs.declared.targets.Walked.{Walked}
 use Rattle.tree.specs.declared.targets.Ending.{Ending}
 use Rattle.tree.specs.declared.targets.Ending.the-variants.{Nodes}
 use Rattle.tree.specs.Shape.{childOf, sideOf, rank}
@@ -21,7 +19,7 @@ use Rattle.tree.specs.Levels.{Fits}
 use Rattle.tree.specs.Times.{at, timesIn}
 use Rattle.tree.specs.Walks.{position}
 use Rattle.tree.specs.Standing.{Stands}
-use Rattle.tree.specs.Remembering.{nothing, entries, keptIn, positionIn, positionBy, Entry, Keeps, Resumes, Rests, RemembersBy, Remembers}
+use Rattle.tree.specs.Remembering.{Remembered, remembered, entries, keptIn, positionIn, positionBy, Entry, Keeps, Resumes, Rests, Remembers}
 use Rattle.tree.proofs.Heights.{height-mono, height-above}
 use Rattle.tree.proofs.Walks.{height-child}
 use Rattle.tree.proofs.Steps.{stands-place, stands-rank}
@@ -98,17 +96,18 @@ module _ (levels : Levels) (s : List ℕ) where
       go zero h = refl
       go (suc c) h = h c (le-refl (suc c))
 
-  pub keeps-none : Keeps levels s nothing
-  keeps-none = record {
-    nodes-size = length-replicate {A = ℕ} 16 0;
-    times-size = length-replicate {A = ℕ} 16 0;
-    ranks-size = length-replicate {A = ℕ} 16 0;
+  -- nothing is remembered in arrays of 16
+  pub keeps-none : {nodes times ranks : List ℕ} → length nodes ≡ 16 → length times ≡ 16 → length ranks ≡ 16 → Keeps levels s (remembered 0 nodes times ranks)
+  keeps-none a b c = record {
+    nodes-size = a;
+    times-size = b;
+    ranks-size = c;
     entry = λ i h. absurd (omega arith);
   }
 
   -- what a target that is not refused leaves
-  pub remembers-opened : (r : Walked) (k : ℕ) (vs : List ℕ) → r .ending ≡ Nodes k → Remembers levels s r vs → (keptIn (r .kept) ≡ vs) × Rests levels s (r .kept) k
-  remembers-opened r k vs e h = subst (λ (e : Ending). RemembersBy levels s (r .kept) e vs) e h
+  pub remembers-opened : (w : Remembered) (end : Ending) (k : ℕ) (vs : List ℕ) → end ≡ Nodes k → Remembers levels s w end vs → (keptIn w ≡ vs) × Rests levels s w k
+  remembers-opened w end k vs e h = subst (λ (e : Ending). Remembers levels s w e vs) e h
 
   pub resumes-root : (w : Remembered) → Keeps levels s w → w .count ≡ 0 → Resumes levels s w 1 (record { start = 0; pins = n }) 0
   resumes-root w k z = record {

@@ -1,6 +1,6 @@
 -- What the tree means. A reader of the public contracts needs Shape, Lists, Stored, Levels, Times, Walks, Sweeps, Buffers and Listing;
--- Marked has lists with what their nodes store, Promises what is shown besides the contracts. Filled, Standing and Remembering are cited by
--- private functions alone.
+-- Marked has lists with what their nodes store, Promises what is shown besides the contracts. Filled, Standing, Known and Remembering are
+-- cited by private functions alone.
 pub mod Shape
 pub mod Lists
 pub mod Stored
@@ -14,4 +14,5 @@ pub mod Marked
 pub mod Promises
 pub mod Filled
 pub mod Standing
+pub mod Known
 pub mod Remembering

@@ -4,11 +4,9 @@ use mathlib.Core.Bool.{Bool, true, cond}
 use mathlib.Core.List.{List, [], _∷_}
 use Prim.Native.Nat.{ℕ, zero, suc, _+_, _≤_, _<_}
 use lib.Dec.{ltb}
-use lib.ListN.{length, getD, replicate}
+use lib.ListN.{length, getD}
 use Rattle.tree.specs.declared.shape.Stretch.{Stretch}
 use Rattle.tree.specs.declared.nodes.Levels.{Levels}
-use Rattle.tree.specs.declared.targets.Remembered.{Remembered}
-use Rattle.tree.specs.declared.targets.Walked.{Walked}
 use Rattle.tree.specs.declared.targets.Ending.{Ending}
 use Rattle.tree.specs.declared.targets.Ending.the-variants as ending
 use Rattle.tree.specs.Shape.{height, stretch, rank}
@@ -16,9 +14,16 @@ use Rattle.tree.specs.Times.{at, timesIn, numberOf, nodeOf}
 use Rattle.tree.specs.Walks.{Answer, found, stopped, isBelow, keptFrom, targetFrom}
 use Rattle.tree.specs.Sweeps.{Dropped, dropped}
 
--- nothing remembered
-abbrev pub nothing : Remembered
-nothing = record { count = 0; nodes = replicate 16 0; times = replicate 16 0; ranks = replicate 16 0 }
+-- the remembered nodes, the deepest last, with their times and ranks: the first `count` entries of each list
+pub record Remembered : Type 0 where
+  pub count : ℕ
+  pub nodes : List ℕ
+  pub times : List ℕ
+  pub ranks : List ℕ
+
+-- as the arrays have them that the functions lend
+abbrev pub remembered : ℕ → List ℕ → List ℕ → List ℕ → Remembered
+remembered count nodes times ranks = record { count = count; nodes = nodes; times = times; ranks = ranks }
 
 -- the first c entries, the last first
 unfoldable pub entries : List ℕ → ℕ → List ℕ
@@ -71,22 +76,15 @@ abbrev pub answerBy : ℕ → Ending → Answer
 answerBy p (ending.Nodes k) = found p k
 answerBy p (ending.Refused r) = stopped (numberOf r) (nodeOf r)
 
--- by what it leaves remembered
-abbrev pub walkedAnswer : ℕ → Walked → Answer
-walkedAnswer n r = answerBy (positionBy (r .kept) n) (r .ending)
-
 -- between two targets, with k nodes opened
 pub record Rests (levels : Levels) (s : List ℕ) (w : Remembered) (k : ℕ) : Type 0 where
   pub keeps : Keeps levels s w
   pub few : k ≤ positionBy w (levels .pins) + w .count
 
 -- what a target leaves remembered, where it is not refused
-abbrev pub RemembersBy : Levels → List ℕ → Remembered → Ending → List ℕ → Type 0
-RemembersBy levels s w (ending.Nodes k) vs = (keptIn w ≡ vs) × Rests levels s w k
-RemembersBy levels s w (ending.Refused r) vs = Unit {0}
-
-abbrev pub Remembers : Levels → List ℕ → Walked → List ℕ → Type 0
-Remembers levels s r vs = RemembersBy levels s (r .kept) (r .ending) vs
+abbrev pub Remembers : Levels → List ℕ → Remembered → Ending → List ℕ → Type 0
+Remembers levels s w (ending.Nodes k) vs = (keptIn w ≡ vs) × Rests levels s w k
+Remembers levels s w (ending.Refused r) vs = Unit {0}
 
 -- where the next target goes on from, unless it drops a remembered node
 abbrev pub startAt : ℕ → Bool → ℕ

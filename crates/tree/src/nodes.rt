@@ -3,11 +3,12 @@ use super::shape::power_of_two;
 use codes::Found;
 use codes::least;
 ghost use mathlib.Core.Path.{_≡_};
-ghost use Prim.Native.Nat.{_+_, _-_, _*_, _^_, _≤_, _<_, min};
+ghost use Prim.Native.Nat.{_+_, _-_, _*_, _/_, _^_, _≤_, _<_, min};
 ghost use lib.ListN.{length};
 ghost use Rattle.codes.specs.Fetch.{value, fetched};
 ghost use Rattle.tree.specs.Levels.{levelsOf, fetchedAt, Fits};
-ghost use Rattle.tree.specs.Times.{at, under, timeOpened};
+ghost use Rattle.tree.specs.Times.{at, under, timeOpened, timesIn};
+ghost use Rattle.tree.specs.Known.{KnownTimes};
 
 // The pin count, each level's code byte and each level's end. Entry 0 of the ends is where the first level starts; so the part
 // of level L, counted from 1, is the strip's bytes from entry L - 1 up to entry L.
@@ -83,4 +84,28 @@ pub(crate) fn open_at<'a>(
     let end = ends[depth + 1];
     let code = codes[depth];
     open_node(&s[start..end], code, n, depth, v, above)
+}
+
+// Opens node v of n, the time of which is read where it is known: `known` has the times of the first nodes.
+pub(crate) fn open_known<'a>(
+    known: &[u32],
+    s: &[u8],
+    ends: &'a [usize],
+    codes: &'a [u8],
+    n: usize,
+    depth: usize,
+    v: usize,
+    above: u32,
+) -> Opened
+    requires { ⌜ Fits (levelsOf n (now codes) (now ends)) (now s) ⌝ }
+    requires { ⌜ (length (now codes) ≡ 16) × (length (now ends) ≡ 17) ⌝ }
+    requires { ⌜ (2 ^ depth ≤ v) × (v < 2 * 2 ^ depth) × (v ≤ n) ⌝ }
+    requires { ⌜ KnownTimes (levelsOf n (now codes) (now ends)) (now s) (now known) ⌝ }
+    requires { ⌜ timesIn (levelsOf n (now codes) (now ends)) (now s) (v / 2) ≡ at above ⌝ }
+    ensures { λ r. ⌜ timeOpened r ≡ under v (at above) (fetchedAt (levelsOf n (now (codes .entry)) (now (ends .entry))) (now (s .entry)) v) ⌝ }
+{
+    if v <= known.len() {
+        return Opened::Time(known[v - 1]);
+    }
+    open_at(s, ends, codes, n, depth, v, above)
 }

@@ -4,20 +4,21 @@ use super::nodes::Refusal;
 use super::shape::Stretch;
 use super::shape::child_of;
 use super::targets::Ending;
-use super::targets::Remembered;
+use super::targets::Point;
 use super::targets::Walked;
+use super::targets::at_root;
 use super::targets::go_down;
 use super::targets::left_by;
-use super::targets::nothing_kept;
 use super::targets::position_of;
 ghost use mathlib.Core.Path.{_≡_};
 ghost use Prim.Native.Nat.{_≤_};
 ghost use lib.ListN.{length};
-ghost use Rattle.tree.specs.Levels.{Fits};
+ghost use Rattle.tree.specs.Levels.{levelsOf, Fits};
 ghost use Rattle.tree.specs.Times.{timesIn};
+ghost use Rattle.tree.specs.Known.{KnownTimes};
 ghost use Rattle.tree.specs.Buffers.{replaced};
 ghost use Rattle.tree.specs.Sweeps.{sweep, swept};
-ghost use Rattle.tree.specs.Remembering.{walkedAnswer, Between, targetIn, keptAfter, Remembers};
+ghost use Rattle.tree.specs.Remembering.{remembered, positionIn, answerBy, Between, targetIn, keptAfter, Remembers};
 
 // The nodes opened in all, or why a target stops.
 pub enum Swept {
@@ -27,41 +28,117 @@ pub enum Swept {
 
 // The next target. The first goes as search does; a later one drops remembered nodes while their time is below it, and if any is
 // dropped, goes on from the right child of the last.
-fn next_target(
+fn next_target<'a>(
+    known: &[u32],
     s: &[u8],
-    levels: Levels,
-    kept: Remembered,
+    ends: &'a [usize],
+    codes: &'a [u8],
+    n: usize,
+    nodes: &mut [usize],
+    times: &mut [u32],
+    ranks: &mut [usize],
+    count: usize,
     first: bool,
     target: u32,
-    nodes: usize,
+    opened: usize,
 ) -> Walked
-    requires { ⌜ Fits levels (now s) ⌝ }
-    requires { ⌜ Between levels (now s) kept first nodes ⌝ }
-    ensures { λ r. ⌜ walkedAnswer (levels .pins) r ≡ targetIn levels (now (s .entry)) kept first target nodes ⌝ }
-    ensures { λ r. ⌜ Remembers levels (now (s .entry)) r (keptAfter levels (now (s .entry)) kept first target) ⌝ }
+    requires { ⌜ Fits (levelsOf n (now codes) (now ends)) (now s) ⌝ }
+    requires { ⌜ (length (now codes) ≡ 16) × (length (now ends) ≡ 17) ⌝ }
+    requires { ⌜ KnownTimes (levelsOf n (now codes) (now ends)) (now s) (now known) ⌝ }
+    requires { ⌜ Between (levelsOf n (now codes) (now ends)) (now s) (remembered count (now nodes) (now times) (now ranks)) first opened ⌝ }
+    ensures { λ r. ⌜ answerBy (positionIn (now (ranks .exit)) (r .count) n) (r .ending) ≡ targetIn (levelsOf n (now (codes .entry)) (now (ends .entry))) (now (s .entry)) (remembered count (now (nodes .entry)) (now (times .entry)) (now (ranks .entry))) first target opened ⌝ }
+    ensures { λ r. ⌜ Remembers (levelsOf n (now (codes .entry)) (now (ends .entry))) (now (s .entry)) (remembered (r .count) (now (nodes .exit)) (now (times .exit)) (now (ranks .exit))) (r .ending) (keptAfter (levelsOf n (now (codes .entry)) (now (ends .entry))) (now (s .entry)) (remembered count (now (nodes .entry)) (now (times .entry)) (now (ranks .entry))) first target) ⌝ }
 {
-    let n = levels.pins;
-    if first {
-        let here = Stretch { start: 0, pins: n };
-        return go_down(s, levels, kept, target, 1, here, 0, nodes);
-    }
-    let left = left_by(kept, target);
-    if left == kept.count {
-        return Walked {
-            kept: kept,
-            ending: Ending::Nodes(nodes),
+    let mut from = at_root(n);
+    let mut left = count;
+    if !first {
+        left = left_by(times, count, target);
+        if left == count {
+            return Walked {
+                count: count,
+                ending: Ending::Nodes(opened),
+            };
+        }
+        let v = child_of(nodes[left], true);
+        let start = ranks[left] + 1;
+        let here = Stretch {
+            start: start,
+            pins: position_of(ranks, left, n) - start,
+        };
+        from = Point {
+            v: v,
+            here: here,
+            above: times[left],
         };
     }
-    let mut kept = kept;
-    kept.count = left;
-    let start = kept.ranks[left] + 1;
-    let here = Stretch {
-        start: start,
-        pins: position_of(kept, n) - start,
-    };
-    let v = child_of(kept.nodes[left], true);
-    let above = kept.times[left];
-    go_down(s, levels, kept, target, v, here, above, nodes)
+    go_down(
+        known,
+        s,
+        ends,
+        codes,
+        n,
+        nodes,
+        times,
+        ranks,
+        left,
+        target,
+        from,
+        opened,
+    )
+}
+
+// Sweeps with the times of the first nodes known, by the codes and ends of all levels.
+fn sweep_by<'a>(
+    answers: &mut [u32],
+    known: &[u32],
+    s: &[u8],
+    ends: &'a [usize],
+    codes: &'a [u8],
+    n: usize,
+    targets: &[u32],
+) -> Swept
+    requires { ⌜ Fits (levelsOf n (now codes) (now ends)) (now s) ⌝ }
+    requires { ⌜ (length (now codes) ≡ 16) × (length (now ends) ≡ 17) ⌝ }
+    requires { ⌜ KnownTimes (levelsOf n (now codes) (now ends)) (now s) (now known) ⌝ }
+    requires { ⌜ length (now targets) ≤ length (now answers) ⌝ }
+    ensures { λ r. ⌜ swept r ≡ sweep n (timesIn (levelsOf n (now (codes .entry)) (now (ends .entry))) (now (s .entry))) (now (targets .entry)) .answer ⌝ }
+    ensures { λ r. ⌜ now (answers .exit) ≡ replaced (now (answers .entry)) 0 (sweep n (timesIn (levelsOf n (now (codes .entry)) (now (ends .entry))) (now (s .entry))) (now (targets .entry)) .positions) ⌝ }
+{
+    let mut nodes = [0usize; 16];
+    let mut times = [0u32; 16];
+    let mut ranks = [0usize; 16];
+    let mut count: usize = 0;
+    let mut opened: usize = 0;
+    let mut i: usize = 0;
+    while i < targets.len() {
+        let walked = next_target(
+            known,
+            s,
+            ends,
+            codes,
+            n,
+            &mut nodes,
+            &mut times,
+            &mut ranks,
+            count,
+            i == 0,
+            targets[i],
+            opened,
+        );
+        let ending = walked.ending;
+        match ending {
+            Ending::Nodes(k) => {
+                opened = k;
+            }
+            Ending::Refused(r) => {
+                return Swept::Refused(r);
+            }
+        }
+        count = walked.count;
+        answers[i] = position_of(&ranks, count, n) as u32;
+        i += 1;
+    }
+    Swept::Nodes(opened)
 }
 
 // Writes the position of each target to the front of `answers`, up to the first target that is refused.
@@ -71,23 +148,14 @@ pub fn sweep(answers: &mut [u32], s: &[u8], levels: Levels, targets: &[u32]) -> 
     ensures { λ r. ⌜ swept r ≡ sweep (levels .pins) (timesIn levels (now (s .entry))) (now (targets .entry)) .answer ⌝ }
     ensures { λ r. ⌜ now (answers .exit) ≡ replaced (now (answers .entry)) 0 (sweep (levels .pins) (timesIn levels (now (s .entry))) (now (targets .entry)) .positions) ⌝ }
 {
-    let mut kept = nothing_kept();
-    let mut nodes: usize = 0;
-    let mut i: usize = 0;
-    while i < targets.len() {
-        let walked = next_target(s, levels, kept, i == 0, targets[i], nodes);
-        let ending = walked.ending;
-        match ending {
-            Ending::Nodes(k) => {
-                nodes = k;
-            }
-            Ending::Refused(r) => {
-                return Swept::Refused(r);
-            }
-        }
-        kept = walked.kept;
-        answers[i] = position_of(kept, levels.pins) as u32;
-        i += 1;
-    }
-    Swept::Nodes(nodes)
+    let none = [0u32; 0];
+    sweep_by(
+        answers,
+        &none,
+        s,
+        &levels.ends,
+        &levels.codes,
+        levels.pins,
+        targets,
+    )
 }

@@ -1,8 +1,7 @@
 // One target: from a node down, with the nodes left by their left side remembered.
-use super::nodes::Levels;
 use super::nodes::Opened;
 use super::nodes::Refusal;
-use super::nodes::open_at;
+use super::nodes::open_known;
 use super::shape::Stretch;
 use super::shape::child_of;
 use super::shape::height;
@@ -10,20 +9,17 @@ use super::shape::root_place;
 use super::shape::side_of;
 ghost use mathlib.Core.Path.{_≡_};
 ghost use Prim.Native.Nat.{_-_, _≤_};
+ghost use lib.ListN.{length};
 ghost use Rattle.tree.specs.Shape.{height};
-ghost use Rattle.tree.specs.Levels.{Fits};
+ghost use Rattle.tree.specs.Levels.{levelsOf, Fits};
 ghost use Rattle.tree.specs.Times.{timesIn};
 ghost use Rattle.tree.specs.Walks.{keptFrom, targetFrom};
-ghost use Rattle.tree.specs.Standing.{Stands};
-ghost use Rattle.tree.specs.Remembering.{nothing, keptIn, positionBy, leftBy, walkedAnswer, Resumes, Remembers};
+ghost use Rattle.tree.specs.Standing.{rootOf, Stands};
+ghost use Rattle.tree.specs.Known.{KnownTimes};
+ghost use Rattle.tree.specs.Remembering.{remembered, entries, positionIn, leftBy, answerBy, Resumes, Remembers};
 
-// The nodes left by their left side, the deepest last, with their times and ranks. There is at most one on each level.
-pub(crate) struct Remembered {
-    pub(crate) count: usize,
-    pub(crate) nodes: [usize; 16],
-    pub(crate) times: [u32; 16],
-    pub(crate) ranks: [usize; 16],
-}
+// The nodes left by their left side are remembered, the deepest last, with their times and ranks, in three arrays that the caller
+// lends. There is at most one on each level, so 16 entries are enough.
 
 // How a target ends: with the nodes opened in all, or why it stops.
 pub(crate) enum Ending {
@@ -31,101 +27,114 @@ pub(crate) enum Ending {
     Refused(Refusal),
 }
 
-// What a target leaves remembered, which means something where it is not refused.
+// How many nodes a target leaves remembered, which means something where it is not refused.
 pub(crate) struct Walked {
-    pub(crate) kept: Remembered,
+    pub(crate) count: usize,
     pub(crate) ending: Ending,
 }
 
-pub(crate) fn nothing_kept() -> Remembered
-    ensures { λ r. ⌜ r ≡ nothing ⌝ }
+// Where a target goes on: node v, the stretch under it and the time above it.
+pub(crate) struct Point {
+    pub(crate) v: usize,
+    pub(crate) here: Stretch,
+    pub(crate) above: u32,
+}
+
+// The root, with no node above it.
+pub(crate) fn at_root(n: usize) -> Point
+    ensures { λ r. ⌜ r ≡ rootOf n ⌝ }
 {
-    Remembered {
-        count: 0,
-        nodes: [0; 16],
-        times: [0; 16],
-        ranks: [0; 16],
+    let here = Stretch { start: 0, pins: n };
+    Point {
+        v: 1,
+        here: here,
+        above: 0,
     }
 }
 
 // The rank of the deepest remembered node, or n.
-pub(crate) fn position_of(kept: Remembered, n: usize) -> usize
-    requires { ⌜ kept .count ≤ 16 ⌝ }
-    ensures { λ r. ⌜ r ≡ positionBy kept n ⌝ }
+pub(crate) fn position_of(ranks: &[usize], count: usize, n: usize) -> usize
+    requires { ⌜ count ≤ length (now ranks) ⌝ }
+    ensures { λ r. ⌜ r ≡ positionIn (now (ranks .entry)) count n ⌝ }
 {
-    if kept.count == 0 {
+    if count == 0 {
         return n;
     }
-    kept.ranks[kept.count - 1]
+    ranks[count - 1]
 }
 
 // How many remembered nodes are left where they are dropped, from the deepest up, while their time is below the target.
-pub(crate) fn left_by(kept: Remembered, target: u32) -> usize
-    requires { ⌜ kept .count ≤ 16 ⌝ }
-    ensures { λ r. ⌜ r ≡ leftBy (kept .times) target (kept .count) ⌝ }
+pub(crate) fn left_by(times: &[u32], count: usize, target: u32) -> usize
+    requires { ⌜ count ≤ length (now times) ⌝ }
+    ensures { λ r. ⌜ r ≡ leftBy (now (times .entry)) target count ⌝ }
 {
-    let mut count = kept.count;
-    while count > 0 {
-        if kept.times[count - 1] >= target {
-            return count;
+    let mut left = count;
+    while left > 0 {
+        if times[left - 1] >= target {
+            return left;
         }
-        count -= 1;
+        left -= 1;
     }
     0
 }
 
-// Opens nodes from node v on: to the left child where a node's time is at or above the target, else to the right one, until no child.
-// Under node v is the stretch `here`, above it the time `above`, and `nodes` have been opened before.
-pub(crate) fn go_down(
+// Opens nodes from a point on: to the left child where a node's time is at or above the target, else to the right one, until no child.
+// `opened` nodes have been opened before.
+pub(crate) fn go_down<'a>(
+    known: &[u32],
     s: &[u8],
-    levels: Levels,
-    kept: Remembered,
+    ends: &'a [usize],
+    codes: &'a [u8],
+    n: usize,
+    nodes: &mut [usize],
+    times: &mut [u32],
+    ranks: &mut [usize],
+    count: usize,
     target: u32,
-    v: usize,
-    here: Stretch,
-    above: u32,
-    nodes: usize,
+    from: Point,
+    opened: usize,
 ) -> Walked
-    requires { ⌜ Fits levels (now s) ⌝ }
-    requires { ⌜ Stands levels (now s) v (height v - 1) here above ⌝ }
-    requires { ⌜ Resumes levels (now s) kept v here nodes ⌝ }
-    ensures { λ r. ⌜ walkedAnswer (levels .pins) r ≡ targetFrom (levels .pins) (timesIn levels (now (s .entry))) target (keptIn kept) nodes v ⌝ }
-    ensures { λ r. ⌜ Remembers levels (now (s .entry)) r (keptFrom (levels .pins) (timesIn levels (now (s .entry))) target (keptIn kept) v) ⌝ }
+    requires { ⌜ Fits (levelsOf n (now codes) (now ends)) (now s) ⌝ }
+    requires { ⌜ (length (now codes) ≡ 16) × (length (now ends) ≡ 17) ⌝ }
+    requires { ⌜ KnownTimes (levelsOf n (now codes) (now ends)) (now s) (now known) ⌝ }
+    requires { ⌜ Stands (levelsOf n (now codes) (now ends)) (now s) (from .v) (height (from .v) - 1) (from .here) (from .above) ⌝ }
+    requires { ⌜ Resumes (levelsOf n (now codes) (now ends)) (now s) (remembered count (now nodes) (now times) (now ranks)) (from .v) (from .here) opened ⌝ }
+    ensures { λ r. ⌜ answerBy (positionIn (now (ranks .exit)) (r .count) n) (r .ending) ≡ targetFrom n (timesIn (levelsOf n (now (codes .entry)) (now (ends .entry))) (now (s .entry))) target (entries (now (nodes .entry)) count) opened (from .v) ⌝ }
+    ensures { λ r. ⌜ Remembers (levelsOf n (now (codes .entry)) (now (ends .entry))) (now (s .entry)) (remembered (r .count) (now (nodes .exit)) (now (times .exit)) (now (ranks .exit))) (r .ending) (keptFrom n (timesIn (levelsOf n (now (codes .entry)) (now (ends .entry))) (now (s .entry))) target (entries (now (nodes .entry)) count) (from .v)) ⌝ }
 {
-    let mut kept = kept;
-    let mut v = v;
-    let mut here = here;
-    let mut time = above;
-    let mut nodes = nodes;
+    let mut count = count;
+    let mut v = from.v;
+    let mut here = from.here;
+    let mut time = from.above;
+    let mut opened = opened;
     let mut depth = height(v) - 1;
-    while v <= levels.pins {
-        nodes += 1;
-        let opened = open_at(s, &levels.ends, &levels.codes, levels.pins, depth, v, time);
-        match opened {
+    while v <= n {
+        opened += 1;
+        let node = open_known(known, s, ends, codes, n, depth, v, time);
+        match node {
             Opened::Time(t) => {
                 time = t;
             }
             Opened::Refused(r) => {
                 return Walked {
-                    kept: kept,
+                    count: count,
                     ending: Ending::Refused(r),
                 };
             }
         }
         let place = root_place(here.pins);
         if time >= target {
-            let count = kept.count;
-            kept.nodes[count] = v;
-            kept.times[count] = time;
-            kept.ranks[count] = here.start + place - 1;
-            kept.count = count + 1;
+            nodes[count] = v;
+            times[count] = time;
+            ranks[count] = here.start + place - 1;
+            count += 1;
         }
         here = side_of(here, place, time < target);
         v = child_of(v, time < target);
         depth += 1;
     }
     Walked {
-        kept: kept,
-        ending: Ending::Nodes(nodes),
+        count: count,
+        ending: Ending::Nodes(opened),
     }
 }

@@ -8,8 +8,8 @@ use super::shape::child_of;
 use super::shape::root_place;
 use super::shape::side_of;
 use super::targets::Ending;
+use super::targets::at_root;
 use super::targets::go_down;
-use super::targets::nothing_kept;
 use super::targets::position_of;
 ghost use mathlib.Core.Path.{_≡_};
 ghost use Prim.Native.Nat.{_<_};
@@ -70,14 +70,28 @@ pub fn search(s: &[u8], levels: Levels, target: u32) -> Searched
     requires { ⌜ Fits levels (now s) ⌝ }
     ensures { λ r. ⌜ searched r ≡ searchAnswer (levels .pins) (timesIn levels (now (s .entry))) target ⌝ }
 {
-    let here = Stretch {
-        start: 0,
-        pins: levels.pins,
-    };
-    let walked = go_down(s, levels, nothing_kept(), target, 1, here, 0, 0);
+    let n = levels.pins;
+    let none = [0u32; 0];
+    let mut nodes = [0usize; 16];
+    let mut times = [0u32; 16];
+    let mut ranks = [0usize; 16];
+    let walked = go_down(
+        &none,
+        s,
+        &levels.ends,
+        &levels.codes,
+        n,
+        &mut nodes,
+        &mut times,
+        &mut ranks,
+        0,
+        target,
+        at_root(n),
+        0,
+    );
     let ending = walked.ending;
     match ending {
-        Ending::Nodes(nodes) => Searched::Position(position_of(walked.kept, levels.pins), nodes),
+        Ending::Nodes(opened) => Searched::Position(position_of(&ranks, walked.count, n), opened),
         Ending::Refused(r) => Searched::Refused(r),
     }
 }

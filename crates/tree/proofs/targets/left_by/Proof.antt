@@ -2,7 +2,7 @@
 use native.Mathlib.Omega.{arith}
 use Prim.Native.Nat.{_-_, _≤_}
 use mathlib.Core.Path.{_≡_, refl, sym, _∙_}
-use lib.ListN.{getD}
+use lib.ListN.{length, getD}
 use borrow.Author.Tests.{lt-ltb, le-ltb}
 use Rattle.tree.specs.Remembering.{leftBy}
 use Rattle.tree.proofs.Dropping.{left-step}
@@ -10,10 +10,10 @@ use Rattle.tree.proofs.targets.left_by.Statement.{statement}
 use Rattle.tree.proofs.targets.left_by.Tie as tie
 
 abbrev Inv-loop : tie.InvT-loop
-Inv-loop target kept count₀ count = (count ≤ 16) × (leftBy (kept .times) target count ≡ leftBy (kept .times) target count₀)
+Inv-loop times count target left₀ left = (left ≤ length times) × (leftBy times target left ≡ leftBy times target left₀)
 
 abbrev μ-loop : tie.MeasureT-loop
-μ-loop target kept count₀ count = count
+μ-loop times count target left₀ left = left
 
 loop-holds : tie.Need-loop-holds Inv-loop μ-loop
 loop-holds c = (c .pre, refl)
@@ -24,17 +24,17 @@ sub-if1 c = omega arith
 mul-if1 : tie.Need-mul-if1 Inv-loop μ-loop
 mul-if1 c = omega arith
 
-element-copy-out-if1 : tie.Need-element-copy-out-if1 Inv-loop μ-loop
-element-copy-out-if1 c = omega arith
+shared-slice-read-if1 : tie.Need-shared-slice-read-if1 Inv-loop μ-loop
+shared-slice-read-if1 c = omega arith
 
 returns : tie.Need-returns Inv-loop μ-loop
 returns c =
     let a = c .before .before .before .before .args in
     let l = c .before .before .before .loop in
-    sym (left-step (a .t1 .times) (a .target) (l .count) (omega arith) ∙ rw (le-ltb (getD (a .t1 .times) (l .count - 1) 0) (a .target) (c .if1 .taken))) ∙ l .inv .1
+    sym (left-step (a .times .now) (a .target) (l .left) (omega arith) ∙ rw (le-ltb (getD (a .times .now) (l .left - 1) 0) (a .target) (c .if1 .taken))) ∙ l .inv .1
 
-sub-count : tie.Need-sub-count Inv-loop μ-loop
-sub-count c = omega arith
+sub-left : tie.Need-sub-left Inv-loop μ-loop
+sub-left c = omega arith
 
 loop-less : tie.Need-loop-less Inv-loop μ-loop
 loop-less c = omega arith
@@ -43,12 +43,12 @@ loop-again : tie.Need-loop-again Inv-loop μ-loop
 loop-again c =
     let a = c .before .before .before .before .args in
     let l = c .before .before .before .loop in
-    let step = left-step (a .t1 .times) (a .target) (l .count) (omega arith) in
-    (omega arith, sym (step ∙ rw (lt-ltb (getD (a .t1 .times) (l .count - 1) 0) (a .target) (omega (arith, c .if1 .left)))) ∙ l .inv .1)
+    let step = left-step (a .times .now) (a .target) (l .left) (omega arith) in
+    (omega arith, sym (step ∙ rw (lt-ltb (getD (a .times .now) (l .left - 1) 0) (a .target) (omega (arith, c .if1 .left)))) ∙ l .inv .1)
 
 returns-2 : tie.Need-returns-2 Inv-loop μ-loop
 unfolding leftBy
-returns-2 c = let z : c .before .loop .count ≡ 0 = omega arith in rw z at (c .before .loop .inv .1)
+returns-2 c = let z : c .before .loop .left ≡ 0 = omega arith in rw z at (c .before .loop .inv .1)
 
 pub left-by-spec : {M : Type 1} → statement M
 left-by-spec =
@@ -59,9 +59,9 @@ left-by-spec =
     loop-holds
     sub-if1
     mul-if1
-    element-copy-out-if1
+    shared-slice-read-if1
     returns
-    sub-count
+    sub-left
     loop-less
     loop-again
     returns-2)

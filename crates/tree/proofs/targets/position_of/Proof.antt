@@ -14,12 +14,12 @@ sub-result c = search needs
 mul-result : tie.Need-mul-result
 mul-result c = search needs
 
-element-copy-out-result : tie.Need-element-copy-out-result
-element-copy-out-result c = search needs
+shared-slice-read-result : tie.Need-shared-slice-read-result
+shared-slice-read-result c = search needs
 
 returns-2 : tie.Need-returns-2
-returns-2 c = position-last (c .before .before .args .t1 .ranks) (c .before .before .args .t1 .count) (c .before .before .args .n) (omega arith)
+returns-2 c = position-last (c .before .before .args .ranks .now) (c .before .before .args .count) (c .before .before .args .n) (omega arith)
 
 pub position-of-spec : {M : Type 1} → statement M
 position-of-spec =
-    tie.close (tie.spec returns sub-result mul-result element-copy-out-result returns-2)
+    tie.close (tie.spec returns sub-result mul-result shared-slice-read-result returns-2)

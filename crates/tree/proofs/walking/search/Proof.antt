@@ -1,65 +1,78 @@
 -- `search` meets its contract.
-use mathlib.Core.Path.{sym, ap, subst, _∙_}
+use native.Mathlib.Omega.{arith}
+use mathlib.Core.Path.{refl, sym, ap, _∙_}
 use Prim.Native.Nat.{ℕ}
-use Rattle.tree.specs.declared.targets.Remembered.{Remembered}
-use Rattle.tree.specs.Times.{timesIn}
-use Rattle.tree.specs.Walks.{found, keptFrom, targetFrom}
-use Rattle.tree.specs.Remembering.{entries, keptIn, positionBy, answerBy, Keeps}
+use borrow.Author.Needs.{needs}
+use Rattle.tree.specs.Walks.{found}
+use Rattle.tree.specs.Remembering.{Remembered, remembered, entries, answerBy}
 use Rattle.tree.proofs.Steps.{root-depth, stands-root}
 use Rattle.tree.proofs.Remembering.{keeps-none, keeps-few, resumes-root, remembers-opened}
-use borrow.Author.Needs.{needs}
 use Rattle.tree.proofs.walking.search.Statement.{statement}
 use Rattle.tree.proofs.walking.search.Tie as tie
 
-nothing-kept-requires : tie.Need-nothing-kept-requires
-nothing-kept-requires c κs = search needs
+slice-aggregate-go-down : tie.Need-slice-aggregate-go-down
+slice-aggregate-go-down c = search needs
+
+slice-aggregate-go-down-2 : tie.Need-slice-aggregate-go-down-2
+slice-aggregate-go-down-2 c = search needs
+
+slice-aggregate-go-down-3 : tie.Need-slice-aggregate-go-down-3
+slice-aggregate-go-down-3 c = search needs
+
+slice-aggregate-go-down-4 : tie.Need-slice-aggregate-go-down-4
+slice-aggregate-go-down-4 c = search needs
+
+at-root-requires : tie.Need-at-root-requires
+at-root-requires c κs = search needs
 
 go-down-requires : tie.Need-go-down-requires
 go-down-requires c κs =
-    let a = c .before .before .args in
-    let e = sym (c .nothing-kept .ensures) in
-    let none = subst (Keeps (a .levels) (a .s .now)) e (keeps-none (a .levels) (a .s .now)) in
-    (c .before .before .pre, (rw root-depth (stands-root (a .levels) (a .s .now)), resumes-root (a .levels) (a .s .now) (c .nothing-kept .result) none (ap (λ (w : Remembered). w .count) (c .nothing-kept .ensures))))
+    let e = c .before .before .before .before .before .before .before .before .before .before .before in
+    let levels = e .args .t2 in
+    let s = e .args .s .now in
+    rw (c .at-root .ensures) (e .pre, ((search needs, search needs), (λ v h k. absurd (omega arith), (rw root-depth (stands-root levels s), resumes-root levels s _ (keeps-none levels s refl refl refl) refl))))
+
+-- what is left remembered
+abbrev kept : tie.After-go-down → Remembered
+kept c = let l = c .go-down .last .1 .1 .1 .1 .1 in remembered (c .go-down .result .count) (l .0) (l .1 .0) (l .1 .1 .0)
 
 enum-known-ending : tie.Need-enum-known-ending
 enum-known-ending c = search needs
 
+slice-aggregate-position-of : tie.Need-slice-aggregate-position-of
+slice-aggregate-position-of c = search needs
+
 position-of-requires : tie.Need-position-of-requires
 position-of-requires c κs =
-    let a = c .before .before .before .before .before .before .args in
-    let r = c .before .before .before .go-down .result in
-    let nodes = c .before .ending .given .0 .0 in
-    let left = remembers-opened (a .levels) (a .s .now) r nodes (keptFrom (a .levels .pins) (timesIn (a .levels) (a .s .now)) (a .target) (keptIn (c .before .before .before .before .nothing-kept .result)) 1) (c .before .ending .given .1) (c .before .before .before .go-down .ensures .1) in
-    keeps-few (a .levels) (a .s .now) (r .kept) (c .before .before .before .before .before .before .pre) (left .1 .keeps)
+    let e = c .before .before .before .before .before .before .before .before .before .before .before .before .before .before .before .before .before .before .before in
+    let levels = e .args .t2 in
+    let s = e .args .s .now in
+    let left = remembers-opened levels s (kept (c .before .before .before .before .before .before .before)) _ _ _ (c .before .before .ending .given .1) (c .before .before .before .before .before .before .before .go-down .ensures .1) in
+    rw (left .1 .keeps .ranks-size) (keeps-few levels s (kept (c .before .before .before .before .before .before .before)) (e .pre) (left .1 .keeps))
 
 enum-known-ending-2 : tie.Need-enum-known-ending-2
 enum-known-ending-2 c = search needs
 
 returns : tie.Need-returns
 unfolding entries
-returns c =
-    let a = c .before .before .before .before .before .before .before .args in
-    let r = c .before .before .before .before .go-down .result in
-    let n = a .levels .pins in
-    ap (λ (p : ℕ). found p (c .before .before .ending .given .0 .0)) (c .position-of .ensures) ∙ sym (ap (answerBy (positionBy (r .kept) n)) (c .before .before .ending .given .1)) ∙ c .before .before .before .before .go-down .ensures .0
-    ∙ ap (λ (w : Remembered). targetFrom n (timesIn (a .levels) (a .s .now)) (a .target) (keptIn w) 0 1) (c .before .before .before .before .before .nothing-kept .ensures)
+returns c = ap (λ (p : ℕ). found p (c .before .before .before .ending .given .0 .0)) (c .position-of .ensures) ∙ sym (ap (answerBy _) (c .before .before .before .ending .given .1)) ∙ rw (c .before .before .before .before .before .before .before .before .before .at-root .ensures) at (c .before .before .before .before .before .before .before .before .go-down .ensures .0)
 
 returns-2 : tie.Need-returns-2
 unfolding entries
-returns-2 c =
-    let a = c .before .before .before .before .before .before .args in
-    let r = c .before .before .before .go-down .result in
-    let n = a .levels .pins in
-    sym (ap (answerBy (positionBy (r .kept) n)) (c .before .ending2 .given .1)) ∙ c .before .before .before .go-down .ensures .0
-    ∙ ap (λ (w : Remembered). targetFrom n (timesIn (a .levels) (a .s .now)) (a .target) (keptIn w) 0 1) (c .before .before .before .before .nothing-kept .ensures)
+returns-2 c = sym (ap (answerBy _) (c .before .ending2 .given .1)) ∙ rw (c .before .before .before .before .before .before .before .at-root .ensures) at (c .before .before .before .before .before .before .go-down .ensures .0)
 
 pub search-spec : {M : Type 1} → statement M
 search-spec =
     tie.close
     (tie.spec
-    nothing-kept-requires
+    slice-aggregate-go-down
+    slice-aggregate-go-down-2
+    slice-aggregate-go-down-3
+    slice-aggregate-go-down-4
+    at-root-requires
     go-down-requires
     enum-known-ending
+    slice-aggregate-position-of
     position-of-requires
     enum-known-ending-2
     returns
