@@ -4,7 +4,7 @@ use mathlib.Core.List.{List, [], _∷_, _++_, append-assoc, append-nil}
 use Prim.Native.Nat.{ℕ, _+_, _≤_, _<_}
 use native.Mathlib.Nat.{zero-add, add-zero}
 use native.Mathlib.Omega.{arith}
-use lib.ListN.{length, take, drop, set, length-append, length-take, length-drop, take-append-drop}
+use lib.ListN.{length, take, drop, set, replicate, length-append, length-take, length-drop, length-replicate, take-append-drop}
 use lib.Seq.{take-at, drop-at, drop-drop, length-take-le, append-snoc, sets-eq}
 use Rattle.tree.specs.Buffers.{replaced}
 
@@ -53,3 +53,10 @@ replaced-front out entries = rw (zero-add (length entries))
 -- what was written to the front
 pub front-of : (out : List ℕ) (p : List ℕ) (n : ℕ) → length p ≡ n → take n (replaced out 0 p) ≡ p
 front-of out p n e = take-at p (drop (0 + length p) out) n e
+
+-- the front of a new array
+pub new-room : (k n : ℕ) → n ≤ k → n ≤ length (replicate {A = ℕ} k 0)
+new-room k n h = rw length-replicate h
+
+pub new-front : (k n : ℕ) → n ≤ k → n ≡ length (take n (replicate {A = ℕ} k 0))
+new-front k n h = sym (length-take-le n (replicate {A = ℕ} k 0) (new-room k n h))

@@ -8,13 +8,12 @@ use native.Mathlib.Decide.{decLt, ℕ-discrete}
 use native.Mathlib.Omega.{arith}
 use lib.ListN.{length, getD, drop, set, length-set, length-append, length-drop, List·getD-append}
 use lib.Seq.{ext-getD, getD-append-add, getD-drop, getD-set-same, getD-set-other}
-use Rattle.codes.specs.Choice.{widthIn}
-use Rattle.tree.specs.Shape.{rootPlace, childOf, sideOf, height}
+use Rattle.tree.specs.Shape.{rootPlace, childOf}
 use Rattle.tree.specs.Stored.{timeOf, timeAbove, stored, storedValues}
 use Rattle.tree.specs.Standing.{StretchIs}
 use Rattle.tree.specs.Filled.{Under, here, below, Correct, Filled}
 use Rattle.tree.proofs.Heights.{place-small}
-use Rattle.tree.proofs.Stretches.{node-of-pins, past-nodes, is-child, rank-is}
+use Rattle.tree.proofs.Stretches.{node-of-pins, past-nodes, is-child, few-side, rank-is}
 use Rattle.tree.proofs.Walks.{child-bounds, parent-of}
 use Rattle.tree.proofs.Contents.{above-child}
 use Rattle.tree.proofs.LevelValues.{length-stored, getD-stored}
@@ -117,12 +116,8 @@ module _ (xs : List ℕ) {v start pins : ℕ} (one : 1 ≤ v) (e : StretchIs (le
 
   -- the children of a node with three pins have one each
   pub three : (right : Bool) → pins ≡ 3 → StretchIs (length xs) (childOf right v) (cond right (start + 2) start) 1
-  unfolding rootPlace height widthIn
-  three right p = is-child right (length xs) one e ∙ rw p (side right)
-    where
-      side : (right : Bool) → sideOf right (record { start = start; pins = 3 }) ≡ record { start = cond right (start + 2) start; pins = 1 }
-      side true = refl
-      side false = refl
+  three true p = rw p at (few-side true (length xs) one e (omega arith) (omega arith))
+  three false p = few-side false (length xs) one e (omega arith) (omega arith)
 
 pub above-side : (right : Bool) (xs : List ℕ) (v : ℕ) → 1 ≤ v → timeAbove xs (childOf right v) ≡ timeOf xs v
 above-side right xs v h = above-child xs (childOf right v) (omega (arith, child-bounds right v)) ∙ rw (parent-of right v)

@@ -1,4 +1,6 @@
 -- Laws that the proofs of the functions cite, each file about what its first line says; Promises proves what specs/Promises states.
+pub mod AllTimes
+pub mod AllValues
 pub mod Buffers
 pub mod Contents
 pub mod Counts
@@ -12,6 +14,7 @@ pub mod NodeFetches
 pub mod NodeTimes
 pub mod Orders
 pub mod Paths
+pub mod Placings
 pub mod Promises
 pub mod Ranks
 pub mod Remembering

@@ -1,20 +1,22 @@
 -- A listing by stretches: what is listed of a left side, the root and a right side, one after the other.
-use mathlib.Core.Path.{_≡_, refl, sym, ap, _∙_}
+use mathlib.Core.Path.{_≡_, refl, sym, ap, subst, _∙_}
 use mathlib.Core.Bool.{Bool, true, false}
 use mathlib.Core.List.{List, [], _∷_, _++_, append-nil}
 use Prim.Native.Nat.{ℕ, zero, suc, _+_, _-_, _*_, _≤_, _<_}
-use native.Mathlib.Nat.{add-zero, add-suc}
+use native.Mathlib.Nat.{zero-add, add-zero, add-suc}
 use native.Mathlib.Omega.{arith}
 use lib.ListN.{length, set, getD}
 use borrow.Author.Tests.{lt-ltb, le-ltb}
 use Rattle.tree.specs.declared.nodes.Levels.{Levels}
 use Rattle.tree.specs.Shape.{rootPlace, childOf, sideOf, rank}
+use Rattle.tree.specs.Stored.{timeOf}
 use Rattle.tree.specs.Times.{at, refused, timesIn}
-use Rattle.tree.specs.Walks.{Answer, found, stopped}
+use Rattle.tree.specs.Walks.{Answer, found, stopped, toward, accessAnswer}
 use Rattle.tree.specs.Buffers.{replaced}
 use Rattle.tree.specs.Listing.{Stop, nowhere, at as stop-at, accesses, timeThen, timesFrom, stopOr, stopFrom, endOf}
 use Rattle.tree.specs.Standing.{Stands, Reaches}
 use Rattle.tree.proofs.Buffers.{replaced-around}
+use Rattle.tree.proofs.Paths.{access-answer}
 use Rattle.tree.proofs.Steps.{stands-place, stands-rank, stands-node, stands-child, access-end, access-refused, access-step}
 
 -- what a later stretch adds, where the listing gets to it
@@ -85,7 +87,7 @@ module _ (answer : ℕ → Answer) where
   times-here (suc k) i r c h e = ap (λ (y : Answer). timeThen y (timesFrom answer k (suc i))) e
 
   -- where access finds the times of a list
-  pub times-found : (xs : List ℕ) (i : ℕ) (nodes : ℕ → ℕ) → ((j : ℕ) → j < length xs → answer (i + j) ≡ found (getD xs j 0) (nodes j))
+  times-found : (xs : List ℕ) (i : ℕ) (nodes : ℕ → ℕ) → ((j : ℕ) → j < length xs → answer (i + j) ≡ found (getD xs j 0) (nodes j))
       → (timesFrom answer (length xs) i ≡ xs) × (stopFrom answer (length xs) i ≡ nowhere)
   unfolding timesFrom stopFrom
   times-found [] i nodes h = (refl, refl)
@@ -93,6 +95,14 @@ module _ (answer : ℕ → Answer) where
       let e : answer i ≡ found x (nodes 0) = rw (add-zero i) at (h 0 (omega arith)) in
       let later = times-found xs (suc i) (λ j. nodes (suc j)) (λ j k. let f : suc i + j ≡ i + suc j = omega arith in rw f (h (suc j) (omega arith))) in
       rw (e, later .0, later .1) (refl, refl)
+
+-- where every node of the list's tree has its time
+pub times-known : (levels : Levels) (s xs : List ℕ) → levels .pins ≡ length xs → ((v : ℕ) → 1 ≤ v → v ≤ length xs → timesIn levels s v ≡ at (timeOf xs v))
+    → (timesFrom (accesses levels s) (levels .pins) 0 ≡ xs) × (stopFrom (accesses levels s) (levels .pins) 0 ≡ nowhere)
+times-known levels s xs pins fine =
+    subst (λ (k : ℕ). (timesFrom (accesses levels s) k 0 ≡ xs) × (stopFrom (accesses levels s) k 0 ≡ nowhere)) (sym pins)
+    (times-found (accesses levels s) xs 0 (λ j. length (toward (length xs) j)) (λ j h.
+    rw (zero-add j) (ap (λ (n : ℕ). accessAnswer n (timesIn levels s) j) pins ∙ access-answer xs (timesIn levels s) fine j h)))
 
 -- ---- at a node
 

@@ -24,7 +24,7 @@ use Rattle.tree.proofs.Walks.{walk-length, toward-on, Found, met-found}
 use Rattle.tree.proofs.Paths.{toward-rank, rank-once, fromRoot-length, access-answer, search-path, search-answer}
 use Rattle.tree.proofs.Sweeps.{sweep-answer, different-pins, different-heights}
 use Rattle.tree.proofs.Contents.{times-back}
-use Rattle.tree.proofs.Listings.{times-end, times-found}
+use Rattle.tree.proofs.Listings.{times-end, times-known}
 use Rattle.tree.proofs.TimeBounds.{times-within}
 use Rattle.tree.proofs.LevelValues.{length-stored, stored-within, level-within, level-half, level-above, fetched-stored}
 
@@ -103,9 +103,7 @@ stored-levels = record { count = length-stored; within = stored-within; level-wi
 -- access finds each time of the list
 listing : (levels : Levels) (s xs : List ℕ) → Held levels s xs
     → (timesFrom (accesses levels s) (levels .pins) 0 ≡ xs) × (stopFrom (accesses levels s) (levels .pins) 0 ≡ nowhere)
-listing levels s xs held =
-    subst (λ (k : ℕ). (timesFrom (accesses levels s) k 0 ≡ xs) × (stopFrom (accesses levels s) k 0 ≡ nowhere)) (sym (held .stores .pins-are))
-    (times-found (accesses levels s) xs 0 (λ j. length (toward (length xs) j)) (λ j h. rw (zero-add j) (contents .access levels s xs held j h)))
+listing levels s xs held = times-known levels s xs (held .stores .pins-are) (node-times levels s xs held)
 
 pub listing-finds : ListingFinds
 listing-finds = record {

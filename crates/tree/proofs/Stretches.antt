@@ -1,7 +1,7 @@
 -- The stretches of the nodes: node v is among 1 to n exactly where its stretch has pins.
 use mathlib.Core.Path.{_≡_, ap, _∙_}
 use mathlib.Core.Logic.{_≢_, _↔_}
-use mathlib.Core.Bool.{Bool, true, false}
+use mathlib.Core.Bool.{Bool, true, false, cond}
 use Prim.Native.Nat.{ℕ, zero, suc, _+_, _-_, _*_, _/_, _%_, _^_, _≤_, _<_, min}
 use native.Mathlib.Nat.{le-refl, pow-succ'}
 use native.Mathlib.Decide.{decLt, ℕ-discrete}
@@ -174,6 +174,18 @@ place-some n {u} {start} {pins} h k e = place-in pins (rw e at (pins-of-node n u
 
 pub is-child : (side : Bool) (n : ℕ) {u start pins : ℕ} → 1 ≤ u → StretchIs n u start pins → stretch n (childOf side u) ≡ sideOf side (record { start = start; pins = pins })
 is-child side n {u} h e = stretch-child n side u h ∙ ap (sideOf side) e
+
+-- of two or three pins one stands before the root
+pub few-place : (pins : ℕ) → 2 ≤ pins → pins ≤ 3 → rootPlace pins ≡ 2
+few-place pins two three = place-law 0 pins (pins - 1) (omega arith) (omega arith) ∙ omega arith
+
+pub few-side : (side : Bool) (n : ℕ) {u start pins : ℕ} → 1 ≤ u → StretchIs n u start pins → 2 ≤ pins → pins ≤ 3
+    → StretchIs n (childOf side u) (cond side (start + 2) start) (cond side (pins - 2) 1)
+few-side side n {u} {start} {pins} h e two three = is-child side n h e ∙ go side
+  where
+    go : (side : Bool) → sideOf side (record { start = start; pins = pins }) ≡ record { start = cond side (start + 2) start; pins = cond side (pins - 2) 1 }
+    go true = rw (few-place pins two three)
+    go false = rw (few-place pins two three)
 
 pub rank-is : (n v : ℕ) {start pins : ℕ} → StretchIs n v start pins → rank n v ≡ start + rootPlace pins - 1
 unfolding rank

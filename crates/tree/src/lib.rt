@@ -5,6 +5,7 @@ mod nodes; // where the levels stand in a strip; one node's stored value and tim
 mod shape; // height, root place, stretches and ranks
 mod sweeping; // sweep
 mod targets; // one target, from a node down
+mod timing; // the times of all nodes, in node order
 mod walking; // access and search
 
 pub use building::construct;

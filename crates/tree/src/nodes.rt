@@ -36,7 +36,7 @@ pub(crate) enum Opened {
 }
 
 // The time of node v, which stores `d`, by its parent's: a left child is `d` before it, a right child `d` after it.
-fn time_under(v: usize, above: u32, d: u32) -> Opened
+pub(crate) fn time_under(v: usize, above: u32, d: u32) -> Opened
     ensures { λ r. ⌜ timeOpened r ≡ under v (at above) (value d) ⌝ }
 {
     if v % 2 == 0 {

@@ -1,0 +1,84 @@
+// The times of all nodes, in node order: entry v - 1 is node v's.
+use super::nodes::Levels;
+use super::nodes::Opened;
+use super::nodes::time_under;
+use codes::least;
+ghost use mathlib.Core.Path.{_≡_};
+ghost use mathlib.Core.Bool.{true};
+ghost use Prim.Native.Nat.{_≤_};
+ghost use lib.ListN.{length};
+ghost use Rattle.tree.specs.Levels.{Fits};
+ghost use Rattle.tree.specs.Known.{KnownTimes, KnownValues, NodeTimed, AllTimed};
+
+// Makes the entry of node v, which is what it stores, its time, where that is not below 0 nor above 4,294,967,295. The time of its
+// parent is `above`.
+fn time_node(values: &mut [u32], v: usize, above: u32) -> bool
+    requires { ⌜ (1 ≤ v) × (v ≤ length (now values)) ⌝ }
+    ensures { λ r. ⌜ (r ≡ true → NodeTimed v above (now (values .entry)) (now (values .exit))) ⌝ }
+{
+    let opened = time_under(v, above, values[v - 1]);
+    match opened {
+        Opened::Time(t) => {
+            values[v - 1] = t;
+            true
+        }
+        Opened::Refused(r) => false,
+    }
+}
+
+// Makes what the nodes store their times, as far as there are such times, two children with each turn. The root stores its time.
+fn time_nodes(values: &mut [u32]) -> bool
+    ensures { λ r. ⌜ (r ≡ true → AllTimed (now (values .entry)) (now (values .exit))) ⌝ }
+{
+    let n = values.len();
+    let mut v: usize = 1;
+    while 2 * v < n {
+        let above = values[v - 1];
+        if !time_node(values, 2 * v, above) {
+            return false;
+        }
+        if !time_node(values, 2 * v + 1, above) {
+            return false;
+        }
+        v += 1;
+    }
+    // A last left child may have no sibling.
+    if 2 * v == n {
+        let above = values[v - 1];
+        return time_node(values, n, above);
+    }
+    true
+}
+
+// Decodes all levels, each from its part alone, into the entries of its nodes.
+fn decode_levels(values: &mut [u32], s: &[u8], levels: Levels) -> bool
+    requires { ⌜ Fits levels (now s) × (levels .pins ≡ length (now values)) ⌝ }
+    ensures { λ r. ⌜ (r ≡ true → KnownValues levels (now (s .entry)) (now (values .exit))) ⌝ }
+{
+    let n = values.len();
+    let mut depth: usize = 0;
+    let mut first: usize = 1;
+    while first <= n {
+        let last = least(n, 2 * first - 1);
+        let start = levels.ends[depth];
+        let end = levels.ends[depth + 1];
+        let code = levels.codes[depth];
+        if !codes::decode(&mut values[first - 1..last], &s[start..end], code) {
+            return false;
+        }
+        depth += 1;
+        first = 2 * first;
+    }
+    true
+}
+
+// Writes the times of all nodes. It may fail where some of them are refused, and where a level is not decoded.
+pub(crate) fn known_times(known: &mut [u32], s: &[u8], levels: Levels) -> bool
+    requires { ⌜ Fits levels (now s) × (levels .pins ≡ length (now known)) ⌝ }
+    ensures { λ r. ⌜ (r ≡ true → KnownTimes levels (now (s .entry)) (now (known .exit))) ⌝ }
+{
+    if decode_levels(known, s, levels) {
+        return time_nodes(known);
+    }
+    false
+}
