@@ -21,7 +21,7 @@ use Rattle.tree.proofs.Promises.{height-least, stored-levels, listing-finds}
 use Rattle.strip.specs.Lists.{firstLower}
 use Rattle.strip.specs.Outcomes.{Outcome, gives, refuses, test, verdict}
 use Rattle.strip.specs.Layout.{maxBytes}
-use Rattle.strip.specs.Written.{fewPins, roomOf}
+use Rattle.strip.specs.Written.{shortPins, roomOf}
 use Rattle.strip.specs.Image.{image}
 use Rattle.strip.specs.Calls.{roomFor, written, listIn, imageTest, checkIn, repeatFrom}
 use Rattle.strip.specs.Read.{fallsTest, unpackIn, gapOr}
@@ -128,8 +128,8 @@ module _ (s : List ℕ) (levels : Levels) where
 -- ---- the image
 
 -- the room of a short list, and of any
-pub few-room : (n : ℕ) → n ≤ fewPins → roomOf n ≤ 4149
-few-room n h = omega (arith, height-least .least n 10 (omega arith))
+pub short-room : (n : ℕ) → n ≤ shortPins → roomOf n ≤ 4149
+short-room n h = omega (arith, height-least .least n 10 (omega arith))
 
 pub any-room : (n : ℕ) → n < 2 ^ 16 → roomOf n ≤ maxBytes
 any-room n h = omega (arith, height-fits n h)

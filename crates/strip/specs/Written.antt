@@ -10,8 +10,8 @@ abbrev pub entryIn : Levels → ℕ → List ℕ
 entryIn levels d = entry (getD (levels .codes) d 0) (getD (levels .ends) (d + 1) 0 - getD (levels .ends) d 0)
 
 -- the most pins of a short list, which is worked on in short arrays
-abbrev pub fewPins : ℕ
-fewPins = 1023
+abbrev pub shortPins : ℕ
+shortPins = 1023
 
 -- bytes that are enough for the strip of any list of n
 abbrev pub roomOf : ℕ → ℕ

@@ -1,6 +1,6 @@
 // Check and unpack, for a strip that is open.
-use super::layout::FEW_BYTES;
-use super::layout::FEW_PINS;
+use super::layout::SHORT_BYTES;
+use super::layout::SHORT_PINS;
 use super::lists::first_lower;
 use super::packing::pack_list;
 use super::refusals::Refusal;
@@ -24,7 +24,7 @@ ghost use Rattle.tree.specs.Buffers.{replaced};
 ghost use Rattle.strip.specs.Outcomes.{test, verdict};
 ghost use Rattle.strip.specs.Image.{image};
 ghost use Rattle.strip.specs.Calls.{roomFor, written, listIn, checkIn, checked};
-ghost use Rattle.strip.specs.Written.{fewPins, roomOf};
+ghost use Rattle.strip.specs.Written.{shortPins, roomOf};
 ghost use Rattle.strip.specs.Read.{fallsTest, unpackIn};
 
 // Whether two runs of bytes are the same.
@@ -101,18 +101,18 @@ fn check_in(times: &mut [u32], room: &mut [u8], s: &[u8], levels: Levels) -> Che
 }
 
 // Checks a strip of few pins in short arrays.
-fn check_few(s: &[u8], levels: Levels) -> Checked
+fn check_short(s: &[u8], levels: Levels) -> Checked
     requires { ⌜ Fits levels (now s) ⌝ }
-    requires { ⌜ levels .pins ≤ fewPins ⌝ }
+    requires { ⌜ levels .pins ≤ shortPins ⌝ }
     ensures { λ r. ⌜ checked r ≡ checkIn (now (s .entry)) levels ⌝ }
 {
-    let mut times = [0u32; FEW_PINS];
-    let mut room = [0u8; FEW_BYTES];
+    let mut times = [0u32; SHORT_PINS];
+    let mut room = [0u8; SHORT_BYTES];
     check_in(&mut times, &mut room, s, levels)
 }
 
 // Checks any strip in arrays for the longest.
-fn check_many(s: &[u8], levels: Levels) -> Checked
+fn check_long(s: &[u8], levels: Levels) -> Checked
     requires { ⌜ Fits levels (now s) ⌝ }
     ensures { λ r. ⌜ checked r ≡ checkIn (now (s .entry)) levels ⌝ }
 {
@@ -126,10 +126,10 @@ pub(crate) fn check_open(s: &[u8], levels: Levels) -> Checked
     requires { ⌜ Fits levels (now s) ⌝ }
     ensures { λ r. ⌜ checked r ≡ checkIn (now (s .entry)) levels ⌝ }
 {
-    if levels.pins <= FEW_PINS {
-        return check_few(s, levels);
+    if levels.pins <= SHORT_PINS {
+        return check_short(s, levels);
     }
-    check_many(s, levels)
+    check_long(s, levels)
 }
 
 // Writes the list to the front of the output, where there is room.
@@ -166,19 +166,19 @@ fn unpack_in(
 }
 
 // Unpacks a strip of few pins in short arrays.
-fn unpack_few(out: &mut [u32], s: &[u8], levels: Levels) -> Checked
+fn unpack_short(out: &mut [u32], s: &[u8], levels: Levels) -> Checked
     requires { ⌜ Fits levels (now s) ⌝ }
-    requires { ⌜ levels .pins ≤ fewPins ⌝ }
+    requires { ⌜ levels .pins ≤ shortPins ⌝ }
     ensures { λ r. ⌜ checked r ≡ unpackIn (now (s .entry)) (length (now (out .entry))) levels ⌝ }
     ensures { λ r. ⌜ now (out .exit) ≡ written (unpackIn (now (s .entry)) (length (now (out .entry))) levels) (listIn (now (s .entry)) levels) (now (out .entry)) ⌝ }
 {
-    let mut times = [0u32; FEW_PINS];
-    let mut room = [0u8; FEW_BYTES];
+    let mut times = [0u32; SHORT_PINS];
+    let mut room = [0u8; SHORT_BYTES];
     unpack_in(out, &mut times, &mut room, s, levels)
 }
 
 // Unpacks any strip in arrays for the longest.
-fn unpack_many(out: &mut [u32], s: &[u8], levels: Levels) -> Checked
+fn unpack_long(out: &mut [u32], s: &[u8], levels: Levels) -> Checked
     requires { ⌜ Fits levels (now s) ⌝ }
     ensures { λ r. ⌜ checked r ≡ unpackIn (now (s .entry)) (length (now (out .entry))) levels ⌝ }
     ensures { λ r. ⌜ now (out .exit) ≡ written (unpackIn (now (s .entry)) (length (now (out .entry))) levels) (listIn (now (s .entry)) levels) (now (out .entry)) ⌝ }
@@ -194,8 +194,8 @@ pub(crate) fn unpack_open(out: &mut [u32], s: &[u8], levels: Levels) -> Checked
     ensures { λ r. ⌜ checked r ≡ unpackIn (now (s .entry)) (length (now (out .entry))) levels ⌝ }
     ensures { λ r. ⌜ now (out .exit) ≡ written (unpackIn (now (s .entry)) (length (now (out .entry))) levels) (listIn (now (s .entry)) levels) (now (out .entry)) ⌝ }
 {
-    if levels.pins <= FEW_PINS {
-        return unpack_few(out, s, levels);
+    if levels.pins <= SHORT_PINS {
+        return unpack_short(out, s, levels);
     }
-    unpack_many(out, s, levels)
+    unpack_long(out, s, levels)
 }

@@ -1,5 +1,5 @@
 // Packing: the plan of an image, then the image where there is room for it.
-use super::layout::FEW_PINS;
+use super::layout::SHORT_PINS;
 use super::layout::no_levels;
 use super::refusals::Refusal;
 use super::strip::Packed;
@@ -13,7 +13,7 @@ ghost use lib.ListN.{length};
 ghost use Rattle.tree.specs.Lists.{ordered};
 ghost use Rattle.strip.specs.Image.{planned, stripOf, image};
 ghost use Rattle.strip.specs.Calls.{packed, roomFor, written};
-ghost use Rattle.strip.specs.Written.{fewPins};
+ghost use Rattle.strip.specs.Written.{shortPins};
 
 // Where the levels of the image lie: each takes the code with fewest bits.
 fn plan(values: &[u32]) -> Levels
@@ -64,18 +64,18 @@ fn pack_in(out: &mut [u8], values: &mut [u32], work: &mut [u32], times: &[u32]) 
 }
 
 // Packs a short list in short arrays.
-fn pack_few(out: &mut [u8], times: &[u32]) -> Packed
-    requires { ⌜ T (ordered (now times)) × (length (now times) ≤ fewPins) ⌝ }
+fn pack_short(out: &mut [u8], times: &[u32]) -> Packed
+    requires { ⌜ T (ordered (now times)) × (length (now times) ≤ shortPins) ⌝ }
     ensures { λ r. ⌜ packed r ≡ roomFor (length (now (out .entry))) (length (image (now (times .entry)))) ⌝ }
     ensures { λ r. ⌜ now (out .exit) ≡ written (roomFor (length (now (out .entry))) (length (image (now (times .entry))))) (image (now (times .entry))) (now (out .entry)) ⌝ }
 {
-    let mut values = [0u32; FEW_PINS];
-    let mut work = [0u32; FEW_PINS / 2 + 1];
+    let mut values = [0u32; SHORT_PINS];
+    let mut work = [0u32; SHORT_PINS / 2 + 1];
     pack_in(out, &mut values, &mut work, times)
 }
 
 // Packs any list in arrays for the longest.
-fn pack_many(out: &mut [u8], times: &[u32]) -> Packed
+fn pack_long(out: &mut [u8], times: &[u32]) -> Packed
     requires { ⌜ T (ordered (now times)) × (length (now times) < 2 ^ 16) ⌝ }
     ensures { λ r. ⌜ packed r ≡ roomFor (length (now (out .entry))) (length (image (now (times .entry)))) ⌝ }
     ensures { λ r. ⌜ now (out .exit) ≡ written (roomFor (length (now (out .entry))) (length (image (now (times .entry))))) (image (now (times .entry))) (now (out .entry)) ⌝ }
@@ -91,8 +91,8 @@ pub(crate) fn pack_list(out: &mut [u8], times: &[u32]) -> Packed
     ensures { λ r. ⌜ packed r ≡ roomFor (length (now (out .entry))) (length (image (now (times .entry)))) ⌝ }
     ensures { λ r. ⌜ now (out .exit) ≡ written (roomFor (length (now (out .entry))) (length (image (now (times .entry))))) (image (now (times .entry))) (now (out .entry)) ⌝ }
 {
-    if times.len() <= FEW_PINS {
-        return pack_few(out, times);
+    if times.len() <= SHORT_PINS {
+        return pack_short(out, times);
     }
-    pack_many(out, times)
+    pack_long(out, times)
 }

@@ -1,5 +1,5 @@
 // Repeat, for a strip that is open.
-use super::layout::FEW_PINS;
+use super::layout::SHORT_PINS;
 use super::lists::first_near;
 use super::refusals::Refusal;
 use super::refusals::of_walk;
@@ -13,7 +13,7 @@ ghost use lib.ListN.{length};
 ghost use Rattle.tree.specs.Levels.{Fits};
 ghost use Rattle.tree.specs.Listing.{accesses};
 ghost use Rattle.strip.specs.Calls.{repeatFrom, repeated};
-ghost use Rattle.strip.specs.Written.{fewPins};
+ghost use Rattle.strip.specs.Written.{shortPins};
 ghost use Rattle.strip.specs.Read.{gapOr};
 
 // The first position whose time is less than r after the one before; refused where that is lower. Without such a position, `end`.
@@ -45,17 +45,17 @@ fn repeat_in(times: &mut [u32], s: &[u8], levels: Levels, r: u32) -> Repeated
 }
 
 // Repeat r of a strip of few pins in a short array.
-fn repeat_few(s: &[u8], levels: Levels, r: u32) -> Repeated
+fn repeat_short(s: &[u8], levels: Levels, r: u32) -> Repeated
     requires { ⌜ Fits levels (now s) ⌝ }
-    requires { ⌜ levels .pins ≤ fewPins ⌝ }
+    requires { ⌜ levels .pins ≤ shortPins ⌝ }
     ensures { λ x. ⌜ repeated x ≡ repeatFrom (accesses levels (now (s .entry))) r (levels .pins) 0 ⌝ }
 {
-    let mut times = [0u32; FEW_PINS];
+    let mut times = [0u32; SHORT_PINS];
     repeat_in(&mut times, s, levels, r)
 }
 
 // Repeat r of any strip in an array for the longest.
-fn repeat_many(s: &[u8], levels: Levels, r: u32) -> Repeated
+fn repeat_long(s: &[u8], levels: Levels, r: u32) -> Repeated
     requires { ⌜ Fits levels (now s) ⌝ }
     ensures { λ x. ⌜ repeated x ≡ repeatFrom (accesses levels (now (s .entry))) r (levels .pins) 0 ⌝ }
 {
@@ -68,8 +68,8 @@ pub(crate) fn repeat_open(s: &[u8], levels: Levels, r: u32) -> Repeated
     requires { ⌜ Fits levels (now s) ⌝ }
     ensures { λ x. ⌜ repeated x ≡ repeatFrom (accesses levels (now (s .entry))) r (levels .pins) 0 ⌝ }
 {
-    if levels.pins <= FEW_PINS {
-        return repeat_few(s, levels, r);
+    if levels.pins <= SHORT_PINS {
+        return repeat_short(s, levels, r);
     }
-    repeat_many(s, levels, r)
+    repeat_long(s, levels, r)
 }

@@ -3,6 +3,7 @@ use super::nodes::Levels;
 use super::nodes::Refusal;
 use super::shape::Stretch;
 use super::shape::child_of;
+use super::shape::height;
 use super::targets::Ending;
 use super::targets::Point;
 use super::targets::Walked;
@@ -10,9 +11,11 @@ use super::targets::at_root;
 use super::targets::go_down;
 use super::targets::left_by;
 use super::targets::position_of;
+use super::timing::known_times;
 ghost use mathlib.Core.Path.{_≡_};
 ghost use Prim.Native.Nat.{_≤_};
 ghost use lib.ListN.{length};
+ghost use Rattle.tree.specs.Shape.{height};
 ghost use Rattle.tree.specs.Levels.{levelsOf, Fits};
 ghost use Rattle.tree.specs.Times.{timesIn};
 ghost use Rattle.tree.specs.Known.{KnownTimes};
@@ -141,8 +144,8 @@ fn sweep_by<'a>(
     Swept::Nodes(opened)
 }
 
-// Writes the position of each target to the front of `answers`, up to the first target that is refused.
-pub fn sweep(answers: &mut [u32], s: &[u8], levels: Levels, targets: &[u32]) -> Swept
+// As `sweep`, with a fetch for each node that is opened.
+fn sweep_fetching(answers: &mut [u32], s: &[u8], levels: Levels, targets: &[u32]) -> Swept
     requires { ⌜ Fits levels (now s) ⌝ }
     requires { ⌜ length (now targets) ≤ length (now answers) ⌝ }
     ensures { λ r. ⌜ swept r ≡ sweep (levels .pins) (timesIn levels (now (s .entry))) (now (targets .entry)) .answer ⌝ }
@@ -158,4 +161,86 @@ pub fn sweep(answers: &mut [u32], s: &[u8], levels: Levels, targets: &[u32]) -> 
         levels.pins,
         targets,
     )
+}
+
+// As `sweep`, with room for the times of all nodes, which are found first. Where they are not known at once, each node has its fetch.
+fn sweep_in(
+    answers: &mut [u32],
+    known: &mut [u32],
+    s: &[u8],
+    levels: Levels,
+    targets: &[u32],
+) -> Swept
+    requires { ⌜ Fits levels (now s) × (levels .pins ≡ length (now known)) ⌝ }
+    requires { ⌜ length (now targets) ≤ length (now answers) ⌝ }
+    ensures { λ r. ⌜ swept r ≡ sweep (levels .pins) (timesIn levels (now (s .entry))) (now (targets .entry)) .answer ⌝ }
+    ensures { λ r. ⌜ now (answers .exit) ≡ replaced (now (answers .entry)) 0 (sweep (levels .pins) (timesIn levels (now (s .entry))) (now (targets .entry)) .positions) ⌝ }
+{
+    if known_times(known, s, levels) {
+        return sweep_by(
+            answers,
+            known,
+            s,
+            &levels.ends,
+            &levels.codes,
+            levels.pins,
+            targets,
+        );
+    }
+    sweep_fetching(answers, s, levels, targets)
+}
+
+// As `sweep_in`, for at most 1,023 pins, so that a short list need not clear room for the longest one.
+fn sweep_short(answers: &mut [u32], s: &[u8], levels: Levels, targets: &[u32]) -> Swept
+    requires { ⌜ Fits levels (now s) × (levels .pins ≤ 1023) ⌝ }
+    requires { ⌜ length (now targets) ≤ length (now answers) ⌝ }
+    ensures { λ r. ⌜ swept r ≡ sweep (levels .pins) (timesIn levels (now (s .entry))) (now (targets .entry)) .answer ⌝ }
+    ensures { λ r. ⌜ now (answers .exit) ≡ replaced (now (answers .entry)) 0 (sweep (levels .pins) (timesIn levels (now (s .entry))) (now (targets .entry)) .positions) ⌝ }
+{
+    let mut known = [0u32; 1023];
+    let n = levels.pins;
+    sweep_in(answers, &mut known[..n], s, levels, targets)
+}
+
+// As `sweep_in`, for any number of pins that 16 levels have.
+fn sweep_long(answers: &mut [u32], s: &[u8], levels: Levels, targets: &[u32]) -> Swept
+    requires { ⌜ Fits levels (now s) ⌝ }
+    requires { ⌜ length (now targets) ≤ length (now answers) ⌝ }
+    ensures { λ r. ⌜ swept r ≡ sweep (levels .pins) (timesIn levels (now (s .entry))) (now (targets .entry)) .answer ⌝ }
+    ensures { λ r. ⌜ now (answers .exit) ≡ replaced (now (answers .entry)) 0 (sweep (levels .pins) (timesIn levels (now (s .entry))) (now (targets .entry)) .positions) ⌝ }
+{
+    let mut known = [0u32; 65535];
+    let n = levels.pins;
+    sweep_in(answers, &mut known[..n], s, levels, targets)
+}
+
+// Whether there are so many targets that it is faster to find the times of all nodes first. A fetch from a chunked level counts bits
+// of the whole level, so fewer targets are enough where the lowest level, with half of the nodes, is one.
+fn are_many(targets: usize, levels: Levels) -> bool
+    requires { ⌜ height (levels .pins) ≤ 16 ⌝ }
+{
+    let h = height(levels.pins);
+    if h == 0 {
+        return false;
+    }
+    if levels.codes[h - 1] > 32 {
+        return targets >= levels.pins / 128;
+    }
+    targets >= levels.pins / 16
+}
+
+// Writes the position of each target to the front of `answers`, up to the first target that is refused.
+pub fn sweep(answers: &mut [u32], s: &[u8], levels: Levels, targets: &[u32]) -> Swept
+    requires { ⌜ Fits levels (now s) ⌝ }
+    requires { ⌜ length (now targets) ≤ length (now answers) ⌝ }
+    ensures { λ r. ⌜ swept r ≡ sweep (levels .pins) (timesIn levels (now (s .entry))) (now (targets .entry)) .answer ⌝ }
+    ensures { λ r. ⌜ now (answers .exit) ≡ replaced (now (answers .entry)) 0 (sweep (levels .pins) (timesIn levels (now (s .entry))) (now (targets .entry)) .positions) ⌝ }
+{
+    if !are_many(targets.len(), levels) {
+        return sweep_fetching(answers, s, levels, targets);
+    }
+    if levels.pins <= 1023 {
+        return sweep_short(answers, s, levels, targets);
+    }
+    sweep_long(answers, s, levels, targets)
 }

@@ -1,8 +1,6 @@
 -- `open_at` meets its contract.
 use native.Mathlib.Omega.{arith}
-use mathlib.Core.Path.{sym, ap, _∙_}
 use lib.ListN.{length-take}
-use Rattle.tree.specs.Times.{at, under}
 use Rattle.tree.specs.Levels.{levelsOf}
 use Rattle.tree.proofs.NodeFetches.{fetched-at, Level, level-fits}
 use Rattle.tree.proofs.nodes.open_at.Statement.{statement}

@@ -1,9 +1,9 @@
--- `check_many` meets its contract.
+-- `check_long` meets its contract.
 use native.Mathlib.Omega.{arith}
 use Rattle.strip.proofs.Checks.{pins-few, any-room}
 use borrow.Author.Needs.{needs}
-use Rattle.strip.proofs.checking.check_many.Statement.{statement}
-use Rattle.strip.proofs.checking.check_many.Tie as tie
+use Rattle.strip.proofs.checking.check_long.Statement.{statement}
+use Rattle.strip.proofs.checking.check_long.Tie as tie
 
 slice-aggregate-check-in : tie.Need-slice-aggregate-check-in
 slice-aggregate-check-in c = search needs
@@ -19,7 +19,7 @@ check-in-requires c κs =
 returns : tie.Need-returns
 returns c = search needs
 
-pub check-many-spec : {M : Type 1} → statement M
-check-many-spec =
+pub check-long-spec : {M : Type 1} → statement M
+check-long-spec =
     tie.close
     (tie.spec slice-aggregate-check-in slice-aggregate-check-in-2 check-in-requires returns)

@@ -1,8 +1,8 @@
--- `sweep` meets its contract.
+-- `sweep_fetching` meets its contract.
 use native.Mathlib.Omega.{arith}
 use borrow.Author.Needs.{needs}
-use Rattle.tree.proofs.sweeping.sweep.Statement.{statement}
-use Rattle.tree.proofs.sweeping.sweep.Tie as tie
+use Rattle.tree.proofs.sweeping.sweep_fetching.Statement.{statement}
+use Rattle.tree.proofs.sweeping.sweep_fetching.Tie as tie
 
 slice-aggregate-sweep-by : tie.Need-slice-aggregate-sweep-by
 slice-aggregate-sweep-by c = search needs
@@ -16,8 +16,8 @@ same-length c = search needs
 returns : tie.Need-returns
 returns c = search needs
 
-pub sweep-spec : {M : Type 1} → statement M
-sweep-spec =
+pub sweep-fetching-spec : {M : Type 1} → statement M
+sweep-fetching-spec =
     tie.close
     (tie.spec
     slice-aggregate-sweep-by

@@ -1,8 +1,8 @@
--- `unpack_few` meets its contract.
-use Rattle.strip.proofs.Checks.{few-room}
+-- `unpack_short` meets its contract.
+use Rattle.strip.proofs.Checks.{short-room}
 use borrow.Author.Needs.{needs}
-use Rattle.strip.proofs.checking.unpack_few.Statement.{statement}
-use Rattle.strip.proofs.checking.unpack_few.Tie as tie
+use Rattle.strip.proofs.checking.unpack_short.Statement.{statement}
+use Rattle.strip.proofs.checking.unpack_short.Tie as tie
 
 slice-aggregate-unpack-in : tie.Need-slice-aggregate-unpack-in
 slice-aggregate-unpack-in c = search needs
@@ -11,7 +11,7 @@ slice-aggregate-unpack-in-2 : tie.Need-slice-aggregate-unpack-in-2
 slice-aggregate-unpack-in-2 c = search needs
 
 unpack-in-requires : tie.Need-unpack-in-requires
-unpack-in-requires c κs = let p = c .before .before .before .before .before .pre in (p .0, (p .1, few-room (c .before .before .before .before .before .args .levels .pins) (p .1)))
+unpack-in-requires c κs = let p = c .before .before .before .before .before .pre in (p .0, (p .1, short-room (c .before .before .before .before .before .args .levels .pins) (p .1)))
 
 same-length : tie.Need-same-length
 same-length c = search needs
@@ -19,8 +19,8 @@ same-length c = search needs
 returns : tie.Need-returns
 returns c = search needs
 
-pub unpack-few-spec : {M : Type 1} → statement M
-unpack-few-spec =
+pub unpack-short-spec : {M : Type 1} → statement M
+unpack-short-spec =
     tie.close
     (tie.spec
     slice-aggregate-unpack-in

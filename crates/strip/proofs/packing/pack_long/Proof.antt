@@ -1,8 +1,8 @@
--- `pack_many` meets its contract.
+-- `pack_long` meets its contract.
 use native.Mathlib.Omega.{arith}
 use borrow.Author.Needs.{needs}
-use Rattle.strip.proofs.packing.pack_many.Statement.{statement}
-use Rattle.strip.proofs.packing.pack_many.Tie as tie
+use Rattle.strip.proofs.packing.pack_long.Statement.{statement}
+use Rattle.strip.proofs.packing.pack_long.Tie as tie
 
 slice-aggregate-pack-in : tie.Need-slice-aggregate-pack-in
 slice-aggregate-pack-in c = search needs
@@ -19,8 +19,8 @@ same-length c = search needs
 returns : tie.Need-returns
 returns c = search needs
 
-pub pack-many-spec : {M : Type 1} → statement M
-pack-many-spec =
+pub pack-long-spec : {M : Type 1} → statement M
+pack-long-spec =
     tie.close
     (tie.spec
     slice-aggregate-pack-in

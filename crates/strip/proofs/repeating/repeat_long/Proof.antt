@@ -1,9 +1,9 @@
--- `repeat_many` meets its contract.
+-- `repeat_long` meets its contract.
 use native.Mathlib.Omega.{arith}
 use Rattle.strip.proofs.Checks.{pins-few}
 use borrow.Author.Needs.{needs}
-use Rattle.strip.proofs.repeating.repeat_many.Statement.{statement}
-use Rattle.strip.proofs.repeating.repeat_many.Tie as tie
+use Rattle.strip.proofs.repeating.repeat_long.Statement.{statement}
+use Rattle.strip.proofs.repeating.repeat_long.Tie as tie
 
 slice-aggregate-repeat-in : tie.Need-slice-aggregate-repeat-in
 slice-aggregate-repeat-in c = search needs
@@ -14,5 +14,5 @@ repeat-in-requires c κs = (c .before .before .pre, omega (arith, pins-few (c .b
 returns : tie.Need-returns
 returns c = search needs
 
-pub repeat-many-spec : {M : Type 1} → statement M
-repeat-many-spec = tie.close (tie.spec slice-aggregate-repeat-in repeat-in-requires returns)
+pub repeat-long-spec : {M : Type 1} → statement M
+repeat-long-spec = tie.close (tie.spec slice-aggregate-repeat-in repeat-in-requires returns)

@@ -1,8 +1,8 @@
--- `check_few` meets its contract.
-use Rattle.strip.proofs.Checks.{few-room}
+-- `check_short` meets its contract.
+use Rattle.strip.proofs.Checks.{short-room}
 use borrow.Author.Needs.{needs}
-use Rattle.strip.proofs.checking.check_few.Statement.{statement}
-use Rattle.strip.proofs.checking.check_few.Tie as tie
+use Rattle.strip.proofs.checking.check_short.Statement.{statement}
+use Rattle.strip.proofs.checking.check_short.Tie as tie
 
 slice-aggregate-check-in : tie.Need-slice-aggregate-check-in
 slice-aggregate-check-in c = search needs
@@ -11,12 +11,12 @@ slice-aggregate-check-in-2 : tie.Need-slice-aggregate-check-in-2
 slice-aggregate-check-in-2 c = search needs
 
 check-in-requires : tie.Need-check-in-requires
-check-in-requires c κs = let p = c .before .before .before .pre in (p .0, (p .1, few-room (c .before .before .before .args .levels .pins) (p .1)))
+check-in-requires c κs = let p = c .before .before .before .pre in (p .0, (p .1, short-room (c .before .before .before .args .levels .pins) (p .1)))
 
 returns : tie.Need-returns
 returns c = search needs
 
-pub check-few-spec : {M : Type 1} → statement M
-check-few-spec =
+pub check-short-spec : {M : Type 1} → statement M
+check-short-spec =
     tie.close
     (tie.spec slice-aggregate-check-in slice-aggregate-check-in-2 check-in-requires returns)

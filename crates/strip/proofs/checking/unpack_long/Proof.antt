@@ -1,9 +1,9 @@
--- `unpack_many` meets its contract.
+-- `unpack_long` meets its contract.
 use native.Mathlib.Omega.{arith}
 use Rattle.strip.proofs.Checks.{pins-few, any-room}
 use borrow.Author.Needs.{needs}
-use Rattle.strip.proofs.checking.unpack_many.Statement.{statement}
-use Rattle.strip.proofs.checking.unpack_many.Tie as tie
+use Rattle.strip.proofs.checking.unpack_long.Statement.{statement}
+use Rattle.strip.proofs.checking.unpack_long.Tie as tie
 
 slice-aggregate-unpack-in : tie.Need-slice-aggregate-unpack-in
 slice-aggregate-unpack-in c = search needs
@@ -22,8 +22,8 @@ same-length c = search needs
 returns : tie.Need-returns
 returns c = search needs
 
-pub unpack-many-spec : {M : Type 1} → statement M
-unpack-many-spec =
+pub unpack-long-spec : {M : Type 1} → statement M
+unpack-long-spec =
     tie.close
     (tie.spec
     slice-aggregate-unpack-in
