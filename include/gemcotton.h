@@ -87,12 +87,14 @@ struct gemcotton_answer gemcotton_up_to(const uint8_t *strip, size_t strip_lengt
  * by their left side are remembered. Each later one drops remembered nodes from the deepest up while their time is below it,
  * and goes on from the right child of the last dropped, if any. A target's position is that of the deepest node then
  * remembered, or the pin count. Refused after opening with 15, then 16, with nothing written. A node with 9 or 10 ends the
- * sweep: the answers of the targets before the one that comes to it have been written, and no others. */
+ * sweep: the answers of the targets before the one that comes to it have been written, and no others. A call takes under
+ * 300 KiB of the stack. */
 struct gemcotton_answer gemcotton_sweep(uint32_t *answers, size_t answers_length, const uint8_t *strip, size_t strip_length,
                                         const uint32_t *targets, size_t targets_length);
 
 /* Check, unpack and repeat read all positions and count no nodes. For each position from 0 on they give access's refusal, then
- * 11 where its time is lower than the one before. A call takes under 1 MiB of the stack, however short the strip. */
+ * 11 where its time is lower than the one before. A call takes under 1.25 MiB of the stack, however short the
+ * strip. */
 
 /* Gives the pin count of an accepted strip. Refused for any other: in opening, at the first position with access's refusal or
  * with 11, or after the last position with 12, where the times so read pack to other bytes. */

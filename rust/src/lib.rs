@@ -1,6 +1,7 @@
-//! Level codes, tree and strip three times over: a slow reference, a plain baseline for speed,
-//! and the proved library behind its C functions.
+//! Level codes, tree and strip four times over: a slow reference, a plain baseline for speed, code
+//! written for speed, and the proved library behind its C functions.
 
+pub mod fast;
 pub mod lend;
 pub mod lists;
 pub mod parts;

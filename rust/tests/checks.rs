@@ -300,7 +300,7 @@ fn nothing_lent() {
 }
 
 #[test]
-fn stack_of_one_mebibyte() {
+fn stack_of_one_and_a_quarter_mebibytes() {
     let mut random = Random(3);
     let times = rising(PINS, || random.of_width(4));
     let strip = packed(&times);
@@ -314,7 +314,7 @@ fn stack_of_one_mebibyte() {
         }
     };
     // The thread itself takes some, too.
-    let thread = thread::Builder::new().stack_size((1 << 20) + (1 << 16));
+    let thread = thread::Builder::new().stack_size((5 << 18) + (1 << 16));
     let done = thread.spawn(calls).expect("a thread").join();
     assert!(done.is_ok());
 }

@@ -1,0 +1,188 @@
+//! The strip as one would write it in Rust for speed: whole words, constant shifts, every level in
+//! one pass. What is amiss is only noticed there; nodes opened one by one then tell the refusal.
+//!
+//! The public functions are never inlined, since calls into the proved library are not.
+
+mod bits;
+mod chunked;
+mod codes;
+mod costs;
+mod fixed;
+mod header;
+mod list;
+mod shape;
+mod sweep;
+mod tree;
+
+use header::{open, Level};
+use list::{read, split, Read};
+use shape::{Shape, HEIGHT};
+
+use crate::reference::strip::{Refusal, PINS};
+
+#[inline(always)]
+fn refusal(number: usize, carried: usize) -> Refusal {
+    Refusal { number, carried }
+}
+
+/// The first index with a lower number than the one before, if these fall.
+fn first_lower(numbers: &[u32]) -> Option<usize> {
+    if numbers.is_sorted() {
+        return None;
+    }
+    let before = numbers.windows(2).position(|pair| pair[1] < pair[0]);
+    before.map(|before| before + 1)
+}
+
+/// Writes the list's strip at the front of `out` and gives its length in bytes.
+#[inline(never)]
+pub fn pack(times: &[u32], out: &mut [u8]) -> Result<usize, Refusal> {
+    if times.is_empty() {
+        return Err(refusal(1, 0));
+    }
+    if times.len() > PINS {
+        return Err(refusal(2, 0));
+    }
+    if let Some(lower) = first_lower(times) {
+        return Err(refusal(3, lower));
+    }
+    let shape = Shape::new(times.len());
+    let mut memory = stored(shape, times);
+    let (values, free) = memory.split_at_mut(shape.pins);
+    let mut levels = [Level::default(); HEIGHT];
+    let mut to = header::length(shape);
+    for (depth, level) in levels[..shape.height].iter_mut().enumerate() {
+        let (code, bits) = codes::choose(&values[nodes_at(shape, depth)]);
+        let from = to;
+        to += bits.div_ceil(8);
+        *level = Level { code, from, to };
+    }
+    let Some(out) = out.get_mut(..to) else {
+        return Err(refusal(4, to));
+    };
+    header::write(shape, &levels, &mut out[..levels[0].from]);
+    for (depth, level) in levels[..shape.height].iter().enumerate() {
+        let values = &mut values[nodes_at(shape, depth)];
+        codes::encode(values, free, level.code, &mut out[level.from..level.to]);
+    }
+    Ok(to)
+}
+
+/// The indices of the nodes at this depth, from 0 for the root.
+fn nodes_at(shape: Shape, depth: usize) -> std::ops::Range<usize> {
+    let first = (1 << depth) - 1;
+    first..first + shape.count(depth)
+}
+
+/// What the nodes store, in node order. Others follow, as many as any level has nodes.
+fn stored(shape: Shape, times: &[u32]) -> Vec<u32> {
+    let lowest = 1 << (shape.height - 1);
+    let mut memory = vec![0; shape.pins + lowest];
+    let (values, list) = memory.split_at_mut(shape.pins);
+    let list = &mut list[..lowest - 1];
+    split(times, &mut values[nodes_at(shape, shape.height - 1)], list);
+    // The list has lost the lower levels. What stands above a level is put where the values of the
+    // higher levels are to go, and is then the next list.
+    for depth in (0..shape.height - 1).rev() {
+        let above = (1 << depth) - 1;
+        let (higher, level) = values[..2 * above + 1].split_at_mut(above);
+        split(&list[..2 * above + 1], level, higher);
+        list[..above].copy_from_slice(higher);
+    }
+    memory
+}
+
+/// Gives the strip's list to `use_list` if it is one that packs to the strip.
+fn with_list<T>(
+    strip: &[u8],
+    use_list: impl FnOnce(Shape, Read) -> Result<T, Refusal>,
+) -> Result<T, Refusal> {
+    let header = open(strip)?;
+    let mut memory = list::memory(header.shape, 0);
+    match read(strip, &header, true, &mut memory) {
+        Some(read) => use_list(header.shape, read),
+        None => {
+            tree::walk(strip, &header, |_, _| None::<()>)?;
+            Err(refusal(12, 0))
+        }
+    }
+}
+
+/// The pin count of a strip that some list packs to.
+#[inline(never)]
+pub fn check(strip: &[u8]) -> Result<usize, Refusal> {
+    with_list(strip, |shape, _| Ok(shape.pins))
+}
+
+/// Writes the list that packs to the strip at the front of `out` and gives the pin count.
+#[inline(never)]
+pub fn unpack(strip: &[u8], out: &mut [u32]) -> Result<usize, Refusal> {
+    with_list(strip, |shape, read| {
+        let Some(out) = out.get_mut(..shape.pins) else {
+            return Err(refusal(4, shape.pins));
+        };
+        read.write(out);
+        Ok(shape.pins)
+    })
+}
+
+/// The time at position i and the nodes opened.
+#[inline(never)]
+pub fn access(strip: &[u8], i: usize) -> Result<(u32, usize), Refusal> {
+    let header = open(strip)?;
+    if i >= header.shape.pins {
+        return Err(refusal(14, 0));
+    }
+    tree::access(strip, &header, i)
+}
+
+/// The number of times below t where the strip is a list's, and the nodes opened.
+#[inline(never)]
+pub fn search(strip: &[u8], t: u32) -> Result<(usize, usize), Refusal> {
+    let header = open(strip)?;
+    tree::search(strip, &header, t)
+}
+
+/// Writes the number of times below each target where the strip is a list's, and gives the nodes
+/// opened.
+#[inline(never)]
+pub fn sweep(strip: &[u8], targets: &[u32], answers: &mut [u32]) -> Result<usize, Refusal> {
+    let header = open(strip)?;
+    if answers.len() != targets.len() {
+        return Err(refusal(15, 0));
+    }
+    if let Some(lower) = first_lower(targets) {
+        return Err(refusal(16, lower));
+    }
+    if sweep::reads_all(&header, targets.len()) {
+        let shape = header.shape;
+        let mut memory = list::memory(shape, shape.pins);
+        if let Some(read) = read(strip, &header, false, &mut memory) {
+            sweep::positions(read.times(), targets, answers);
+            return Ok(sweep::nodes(shape, answers));
+        }
+    }
+    tree::sweep(strip, &header, targets, answers)
+}
+
+/// The first position with a time less than r after the one before, or none.
+#[inline(never)]
+pub fn repeat(strip: &[u8], r: u32) -> Result<Option<usize>, Refusal> {
+    let header = open(strip)?;
+    let pins = header.shape.pins;
+    // With r = 0 none is near. Otherwise the first positions may tell, and nodes are opened for a
+    // quarter of the time that it takes to read all.
+    if r > 0 {
+        let (read, open) = (costs::of_reading(&header), costs::of_opening(&header, pins));
+        let first = 4 + pins * read / (4 * open);
+        if let Some(near) = tree::first_near(strip, &header, r, first)? {
+            return Ok(Some(near));
+        }
+    }
+    let mut memory = list::memory(header.shape, if r > 0 { pins } else { 0 });
+    match read(strip, &header, false, &mut memory) {
+        Some(_) if r == 0 => Ok(None),
+        Some(read) => Ok(list::first_near(read.times(), r)),
+        None => tree::first_near(strip, &header, r, pins),
+    }
+}
