@@ -1,7 +1,7 @@
 -- What filling the buffer node by node leaves in it.
 use mathlib.Core.Path.{_≡_, refl, sym, ap, _∙_}
 use mathlib.Core.Logic.{inl, inr}
-use mathlib.Core.Bool.{Bool, true, false, cond}
+use mathlib.Core.Bool.{Bool, true, false}
 use mathlib.Core.List.{List, _++_}
 use Prim.Native.Nat.{ℕ, suc, _+_, _-_, _*_, _≤_, _<_}
 use native.Mathlib.Decide.{decLt, ℕ-discrete}
@@ -13,7 +13,7 @@ use Rattle.tree.specs.Stored.{timeOf, timeAbove, stored, storedValues}
 use Rattle.tree.specs.Standing.{StretchIs}
 use Rattle.tree.specs.Filled.{Under, here, below, Correct, Filled}
 use Rattle.tree.proofs.Heights.{place-small}
-use Rattle.tree.proofs.Stretches.{node-of-pins, past-nodes, is-child, few-side, rank-is}
+use Rattle.tree.proofs.Stretches.{node-of-pins, past-nodes, is-child, few-place, rank-is}
 use Rattle.tree.proofs.Walks.{child-bounds, parent-of}
 use Rattle.tree.proofs.Contents.{above-child}
 use Rattle.tree.proofs.LevelValues.{length-stored, getD-stored}
@@ -114,10 +114,18 @@ module _ (xs : List ℕ) {v start pins : ℕ} (one : 1 ≤ v) (e : StretchIs (le
   fill-leaf p =
       past-nodes (length xs) (2 * v) (omega arith) (rw (is-child false (length xs) one e, p) (omega (arith, place-small 1 (omega arith))))
 
-  -- the children of a node with three pins have one each
-  pub three : (right : Bool) → pins ≡ 3 → StretchIs (length xs) (childOf right v) (cond right (start + 2) start) 1
-  three true p = rw p at (few-side true (length xs) one e (omega arith) (omega arith))
-  three false p = few-side false (length xs) one e (omega arith) (omega arith)
+  -- where the time stands of a node with one pin, and of one with two or three
+  pub one-time : pins ≡ 1 → getD xs start 0 ≡ timeOf xs v
+  one-time p =
+      let place = place-small 1 (omega arith) in
+      let k : start + rootPlace pins - 1 ≡ start = rw p (omega arith) in
+      rw k at fill-time
+
+  pub few-time : 2 ≤ pins → pins ≤ 3 → getD xs (start + 1) 0 ≡ timeOf xs v
+  few-time two three =
+      let place = few-place pins two three in
+      let k : start + rootPlace pins - 1 ≡ start + 1 = omega arith in
+      rw k at fill-time
 
 pub above-side : (right : Bool) (xs : List ℕ) (v : ℕ) → 1 ≤ v → timeAbove xs (childOf right v) ≡ timeOf xs v
 above-side right xs v h = above-child xs (childOf right v) (omega (arith, child-bounds right v)) ∙ rw (parent-of right v)

@@ -40,25 +40,45 @@ fn fill_node(values: &mut [u32], times: &[u32], at: usize, v: usize, above: u32)
     time
 }
 
-// Fills the entries of node v, with the stretch of `pins` from `start` on under it, and of the nodes below it. The time of its
-// parent is `above`. Two leaves are filled with their parent, which saves most calls.
-fn fill(values: &mut [u32], times: &[u32], start: usize, pins: usize, v: usize, above: u32)
+// As `fill`, for a stretch of no more than three pins. With two or more of them the node has a left child, with three a right one, and
+// these have no children.
+fn fill_few(values: &mut [u32], times: &[u32], start: usize, pins: usize, v: usize, above: u32)
     requires { ⌜ T (ordered (now times)) ⌝ }
-    requires { ⌜ (length (now times) ≤ length (now values)) × (1 ≤ v) ⌝ }
+    requires { ⌜ (length (now times) ≤ length (now values)) × (1 ≤ v) × (pins ≤ 3) ⌝ }
     requires { ⌜ StretchIs (length (now times)) v start pins × (start + pins ≤ length (now times)) × (timeAbove (now times) v ≡ above) ⌝ }
     ensures { λ r. ⌜ Filled (now (times .entry)) v (now (values .entry)) (now (values .exit)) ⌝ }
 {
     if pins == 0 {
         return;
     }
-    let place = root_place(pins);
-    let time = fill_node(values, times, start + place - 1, v, above);
     if pins == 1 {
+        fill_node(values, times, start, v, above);
         return;
     }
+    let time = fill_node(values, times, start + 1, v, above);
+    fill_node(values, times, start, 2 * v, time);
     if pins == 3 {
-        fill_node(values, times, start, 2 * v, time);
         fill_node(values, times, start + 2, 2 * v + 1, time);
+    }
+}
+
+// Fills the entries of node v, with the stretch of `pins` from `start` on under it, and of the nodes below it. The time of its
+// parent is `above`. The sides of seven pins have no more than three each, which saves most calls.
+fn fill(values: &mut [u32], times: &[u32], start: usize, pins: usize, v: usize, above: u32)
+    requires { ⌜ T (ordered (now times)) ⌝ }
+    requires { ⌜ (length (now times) ≤ length (now values)) × (1 ≤ v) ⌝ }
+    requires { ⌜ StretchIs (length (now times)) v start pins × (start + pins ≤ length (now times)) × (timeAbove (now times) v ≡ above) ⌝ }
+    ensures { λ r. ⌜ Filled (now (times .entry)) v (now (values .entry)) (now (values .exit)) ⌝ }
+{
+    if pins <= 3 {
+        fill_few(values, times, start, pins, v, above);
+        return;
+    }
+    let place = root_place(pins);
+    let time = fill_node(values, times, start + place - 1, v, above);
+    if pins <= 7 {
+        fill_few(values, times, start, place - 1, 2 * v, time);
+        fill_few(values, times, start + place, pins - place, 2 * v + 1, time);
         return;
     }
     fill(values, times, start, place - 1, 2 * v, time);
