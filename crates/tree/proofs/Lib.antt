@@ -8,6 +8,8 @@ pub mod Dropping
 pub mod Fills
 pub mod Heights
 pub mod Inorder
+pub mod LevelMerges
+pub mod LevelRanks
 pub mod LevelValues
 pub mod Listings
 pub mod NodeFetches

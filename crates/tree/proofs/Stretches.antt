@@ -64,9 +64,17 @@ side-in false s h = let p = place-in (s .pins) h in omega arith
 
 -- ---- the pins of a stretch
 
+-- the root's place in a stretch of so many pins
+place-under : (n k u : ℕ) → suc (stretch n u .pins) ≡ 2 ^ suc k + min (2 ^ suc k) (suc n - u * 2 ^ suc k)
+    → (suc (stretch n u .pins) ≡ 2 * 2 ^ k + min (2 * 2 ^ k) (suc n - u * (2 * 2 ^ k)))
+    × (rootPlace (stretch n u .pins) ≡ 2 ^ k + min (min (2 * 2 ^ k) (suc n - u * (2 * 2 ^ k))) (2 ^ k))
+place-under n k u i =
+    let i′ = rw (pow-succ' 2 k) at i in
+    (i′, place-law k (stretch n u .pins) (min (2 * 2 ^ k) (suc n - u * (2 * 2 ^ k))) (omega arith) (omega arith))
+
 -- under a node v at depth d: with k levels between it and the last, its full levels have 2 ^ k - 1 nodes, and of
 -- the last level those from v * 2 ^ k on that are at most n
-pins-at : (n j d k v : ℕ) → j ≡ d + k → 2 ^ j ≤ n → n < 2 ^ suc j → 2 ^ d ≤ v → v < 2 ^ suc d
+pub pins-at : (n j d k v : ℕ) → j ≡ d + k → 2 ^ j ≤ n → n < 2 ^ suc j → 2 ^ d ≤ v → v < 2 ^ suc d
     → suc (stretch n v .pins) ≡ 2 ^ k + min (2 ^ k) (suc n - v * 2 ^ k)
 pins-at n j zero k v ej lo hi a b =
     let ev : v ≡ 1 = omega arith in
@@ -74,21 +82,19 @@ pins-at n j zero k v ej lo hi a b =
     rw (ev, stretch-root n) (omega (arith, rw ek at lo, rw ek at hi))
 pins-at n j (suc d) k v ej lo hi a b = go (child v (omega (arith, pow-pos d))) (λ u. pins-at n j d (suc k) u (omega arith) lo hi)
   where
-    under : (u : ℕ) → suc (stretch n u .pins) ≡ 2 ^ suc k + min (2 ^ suc k) (suc n - u * 2 ^ suc k)
-        → (suc (stretch n u .pins) ≡ 2 * 2 ^ k + min (2 * 2 ^ k) (suc n - u * (2 * 2 ^ k)))
-        × (rootPlace (stretch n u .pins) ≡ 2 ^ k + min (min (2 * 2 ^ k) (suc n - u * (2 * 2 ^ k))) (2 ^ k))
-    under u i =
-        let i′ = rw (pow-succ' 2 k) at i in
-        (i′, place-law k (stretch n u .pins) (min (2 * 2 ^ k) (suc n - u * (2 * 2 ^ k))) (omega arith) (omega arith))
-
     go : Child v → ((u : ℕ) → 2 ^ d ≤ u → u < 2 ^ suc d → suc (stretch n u .pins) ≡ 2 ^ suc k + min (2 ^ suc k) (suc n - u * 2 ^ suc k))
         → suc (stretch n v .pins) ≡ 2 ^ k + min (2 ^ k) (suc n - v * 2 ^ k)
     go (left u h e) r =
-        let i = under u (r u (omega arith) (omega arith)) in
+        let i = place-under n k u (r u (omega arith) (omega arith)) in
         rw (e, stretch-left n u h, i .1) (omega (arith, i .0, pow-pos k))
     go (right u h e) r =
-        let i = under u (r u (omega arith) (omega arith)) in
+        let i = place-under n k u (r u (omega arith) (omega arith)) in
         rw (e, stretch-right n u h, i .1) (omega (arith, i .0, pow-pos k))
+
+-- the place of its root, where it is not on the last level
+pub place-at : (n j d k u : ℕ) → j ≡ d + suc k → 2 ^ j ≤ n → n < 2 ^ suc j → 2 ^ d ≤ u → u < 2 ^ suc d
+    → rootPlace (stretch n u .pins) ≡ 2 ^ k + min (min (2 * 2 ^ k) (suc n - u * (2 * 2 ^ k))) (2 ^ k)
+place-at n j d k u ej lo hi a b = place-under n k u (pins-at n j d (suc k) u ej lo hi a b) .1
 
 -- a node with no more than one pin has no children
 pins-child : (n v : ℕ) → 2 ≤ v → stretch n (v / 2) .pins < 2 → stretch n v .pins ≡ 0

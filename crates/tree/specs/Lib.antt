@@ -15,4 +15,5 @@ pub mod Promises
 pub mod Filled
 pub mod Standing
 pub mod Known
+pub mod Merged
 pub mod Remembering

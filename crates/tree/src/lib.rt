@@ -1,6 +1,7 @@
 // The difference tree: the shape of the heap, its construction, and the walks over its levels.
 mod building; // the stored values of a list, in node order
 mod listing; // the times at all positions
+mod merging; // levels merged into the list of all times
 mod nodes; // where the levels stand in a strip; one node's stored value and time
 mod shape; // height, root place, stretches and ranks
 mod sweeping; // sweep
