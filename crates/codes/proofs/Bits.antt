@@ -6,10 +6,10 @@ use native.Mathlib.Nat.{not-suc-le-zero, le-of-suc-le-suc, mod-eq-of-lt, mod-one
 use native.Mathlib.Numerals.{one-add}
 use native.Mathlib.Omega.{arith}
 use lib.ListN.{length, take, drop, getD, replicate, length-append, length-take, length-drop, take-append-drop}
-use lib.Seq.{take-at, drop-at, length-take-le, take-add, drop-drop, getD-drop}
+use lib.Seq.{take-at, drop-at, length-take-le, take-add, drop-drop, getD-drop, ext-getD}
 use lib.Pow.{pow-pos, pow-add, pow-mono, mod-pow-add, high, low, split, shr-shr}
 use lib.Arith.{digits-lt}
-use Rattle.codes.specs.Bits.{bits, number, sum, fixed, numbers, bytesOf, bytesFor, padded}
+use Rattle.codes.specs.Bits.{bits, number, sum, fixed, numbers, bytesFor, padded}
 use Rattle.codes.specs.Codes.{Within}
 
 -- ---- elements of at most w bits; those of bits have at most one
@@ -105,6 +105,11 @@ pub fixed-fetch : (w : ℕ) (vs : List ℕ) (j : ℕ) (pad : List ℕ) → j < l
     → number (take w (drop (j * w) (fixed w vs ++ pad))) ≡ getD vs j 0
 fixed-fetch w vs j pad h k = rw (fixed-at w vs j pad h, number-bits w (getD vs j 0), mod-eq-of-lt k)
 
+-- bits of a fixed code are those of one list of so many values
+pub fixed-same : (w : ℕ) (xs ys : List ℕ) → length xs ≡ length ys → Within w xs → Within w ys → fixed w xs ≡ fixed w ys → xs ≡ ys
+fixed-same w xs ys l h k e =
+    ext-getD 0 xs ys l (λ j i. sym (fixed-fetch w xs j [] i (h j)) ∙ rw e (fixed-fetch w ys j [] (rw l at i) (k j)))
+
 -- ---- the bits of a number, in two parts
 
 pub bits-split : (m h x : ℕ) → bits (m + h) x ≡ bits m (x / 2 ^ h) ++ bits h x
@@ -140,15 +145,15 @@ sum-le bs zero h = omega arith
 sum-le [] (suc n) h = omega arith
 sum-le (b ∷ bs) (suc n) h = omega (arith, h 0, sum-le bs n (λ j. h (suc j)))
 
--- ---- bits to bytes and back
+-- ---- bits to numbers and back
 
-pub bytes-bits : (k : ℕ) (bs : List ℕ) → Within 1 bs → k * 8 ≤ length bs → fixed 8 (bytesOf k bs) ≡ take (k * 8) bs
+pub numbers-bits : (w k : ℕ) (bs : List ℕ) → Within 1 bs → k * w ≤ length bs → fixed w (numbers w k bs) ≡ take (k * w) bs
 unfolding fixed numbers
-bytes-bits zero bs h l = refl
-bytes-bits (suc k) bs h l =
-    let e : suc k * 8 ≡ 8 + k * 8 = omega arith in
-    let b = bits-number (take 8 bs) (within-take 1 8 bs h) (length-take-le 8 bs (omega arith)) in
-    rw (e, take-add 8 (k * 8) bs, b, bytes-bits k (drop 8 bs) (within-drop 1 8 bs h) (simp length-drop (omega arith)))
+numbers-bits w zero bs h l = ap (λ (m : ℕ). take m bs) (sym (zero-mul w))
+numbers-bits w (suc k) bs h l =
+    let e : suc k * w ≡ w + k * w = omega arith in
+    let b = bits-number (take w bs) (within-take 1 w bs h) (length-take-le w bs (omega arith)) in
+    rw (e, take-add w (k * w) bs, b, numbers-bits w k (drop w bs) (within-drop 1 w bs h) (simp length-drop (omega arith)))
 
 pub length-numbers : (w n : ℕ) (bs : List ℕ) → length (numbers w n bs) ≡ n
 unfolding numbers
@@ -181,6 +186,12 @@ pub number-take-lt : (bs : List ℕ) (w : ℕ) → Within 1 bs → number (take 
 number-take-lt bs w h =
     let l : length (take w bs) ≤ w = simp length-take (omega arith) in
     lt-of-lt-of-le (number-lt (take w bs) (within-take 1 w bs h) refl) (pow-mono l)
+
+pub within-numbers : (w n : ℕ) (bs : List ℕ) → Within 1 bs → Within w (numbers w n bs)
+unfolding numbers
+within-numbers w zero bs h j = pow-pos w
+within-numbers w (suc n) bs h zero = number-take-lt bs w h
+within-numbers w (suc n) bs h (suc j) = within-numbers w n (drop w bs) (within-drop 1 w bs h) j
 
 -- a bit, read as a number
 pub number-one : (bs : List ℕ) (k : ℕ) → k < length bs → number (take 1 (drop k bs)) ≡ getD bs k 0

@@ -18,13 +18,13 @@ use Rattle.codes.specs.declared.kinds.Kind.the-variants.{Fixed, Chunked,
 use Rattle.codes.specs.Bits.{number, sum, numbers, bitsOf}
 use Rattle.codes.specs.Codes.{kindOf, Within}
 use Rattle.codes.specs.Fetch.{Fetched, value, fixedAt, extended, chunkedAt, kindFetched, fetched}
-use Rattle.codes.specs.Decode.{Decoded, all, undecoded, merged, below, layered, decodedLayers, kindDecoded, isDecoded, decodedOr0}
+use Rattle.codes.specs.Decode.{Decoded, all, undecoded, merged, fromOne, layered, decodedLayers, kindDecoded, isDecoded, decodedOr0}
 use Rattle.codes.specs.Merging.{Says}
 use Rattle.codes.specs.Promises.{Known, DecodeFetches}
 use Rattle.codes.proofs.Bits.{bits-fixed, length-numbers, number-take-lt, within-drop}
 use Rattle.codes.proofs.CodeByte.{kind-known}
 use Rattle.codes.proofs.Fetches.{fixed-inside, sum-take-lt, fetch-step}
-use Rattle.codes.proofs.Merges.{length-merged, merged-at, below-at}
+use Rattle.codes.proofs.Merges.{length-merged, merged-at, from-one-at}
 
 -- ---- fixed codes
 
@@ -43,6 +43,14 @@ fixed-decoded w n bs h = rw (le-ltb (length bs) (n * w) h)
 pub fixed-undecoded : (w n : ℕ) (bs : List ℕ) → length bs < n * w → kindDecoded (Fixed w) n bs ≡ undecoded
 unfolding kindDecoded
 fixed-undecoded w n bs h = rw (lt-ltb (length bs) (n * w) h)
+
+pub fixed-told : (w n : ℕ) (bs vs : List ℕ) → kindDecoded (Fixed w) n bs ≡ all vs → (n * w ≤ length bs) × (vs ≡ numbers w n bs)
+unfolding kindDecoded
+fixed-told w n bs vs e = go (ltb (length bs) (n * w)) refl e
+  where
+    go : (t : Bool) → ltb (length bs) (n * w) ≡ t → cond t undecoded (all (numbers w n bs)) ≡ all vs → (n * w ≤ length bs) × (vs ≡ numbers w n bs)
+    go true p q = absurd (true≢false (sym (ap isDecoded q)))
+    go false p q = (ltb-false (length bs) (n * w) p, sym (ap (decodedOr0 0) q))
 
 -- a list with these entries
 pub numbers-are : (w n : ℕ) (bs vs : List ℕ) → length vs ≡ n → ((q : ℕ) → q < n → getD vs q 0 ≡ number (take w (drop (q * w) bs))) → vs ≡ numbers w n bs
@@ -83,6 +91,37 @@ layers-at (suc f) b n at rests bs h l e =
     let q : suc f - 1 ≡ f = omega arith in
     rw (layers-step f b n (drop at bs) (simp length-drop (omega arith)), drop-drop (n + n * b) at bs, p, q, e)
 
+-- where no layer may follow there are no values
+none-told : (b n : ℕ) (bs vs : List ℕ) → decodedLayers 0 b n bs ≡ all vs → (n ≡ 0) × (vs ≡ [])
+unfolding decodedLayers
+none-told b n bs vs e = go (eqb n 0) refl e
+  where
+    go : (t : Bool) → eqb n 0 ≡ t → cond t (all []) undecoded ≡ all vs → (n ≡ 0) × (vs ≡ [])
+    go true p q = (eqb-true n 0 p, sym (ap (decodedOr0 0) q))
+    go false p q = absurd (true≢false (sym (ap isDecoded q)))
+
+-- a layer that is decoded lies in the part, and those after it are decoded to its rests
+pub record Layer (f b n : ℕ) (bs vs : List ℕ) : Type 0 where
+  pub rests : List ℕ
+  pub whole : n + n * b ≤ length bs
+  pub after : decodedLayers f b (sum (take n bs)) (drop (n + n * b) bs) ≡ all rests
+  pub small : fromOne (2 ^ (32 - b)) rests ≡ true
+  pub values : vs ≡ merged b (take n bs) (drop n bs) rests
+
+pub layer-told : (f b n : ℕ) (bs vs : List ℕ) → decodedLayers (suc f) b n bs ≡ all vs → Layer f b n bs vs
+unfolding decodedLayers
+layer-told f b n bs vs e = whole (ltb (length bs) (n + n * b)) refl (decodedLayers f b (sum (take n bs)) (drop (n + n * b) bs)) refl e
+  where
+    whole : (t : Bool) → ltb (length bs) (n + n * b) ≡ t → (d : Decoded) → decodedLayers f b (sum (take n bs)) (drop (n + n * b) bs) ≡ d
+        → cond t undecoded (layered b (take n bs) (drop n bs) d) ≡ all vs → Layer f b n bs vs
+    whole true p d r q = absurd (true≢false (sym (ap isDecoded q)))
+    whole false p undecoded r q = absurd (true≢false (sym (ap isDecoded q)))
+    whole false p (all rests) r q = fit (fromOne (2 ^ (32 - b)) rests) refl q
+      where
+        fit : (t : Bool) → fromOne (2 ^ (32 - b)) rests ≡ t → cond t (all (merged b (take n bs) (drop n bs) rests)) undecoded ≡ all vs → Layer f b n bs vs
+        fit true s q' = record { rests = rests; whole = ltb-false (length bs) (n + n * b) p; after = r; small = s; values = sym (ap (decodedOr0 0) q') }
+        fit false s q' = absurd (true≢false (sym (ap isDecoded q')))
+
 -- ---- what is decoded is what fetches find
 
 -- a value that fetches find, with what a fetch finds above it
@@ -98,7 +137,7 @@ pub record Fetches (b n : ℕ) (bs vs : List ℕ) : Type 0 where
   pub found : (j : ℕ) → j < n → chunkedAt b n j bs ≡ value (getD vs j 0)
 
 module _ (b n : ℕ) (bs rests : List ℕ) (hb : 1 ≤ b) (h8 : b ≤ 8) (w : Within 1 bs) (l : n + n * b ≤ length bs)
-    (small : below (2 ^ (32 - b)) rests ≡ true) (later : Fetches b (sum (take n bs)) (drop (n + n * b) bs) rests) where
+    (small : fromOne (2 ^ (32 - b)) rests ≡ true) (later : Fetches b (sum (take n bs)) (drop (n + n * b) bs) rests) where
   -- value j: its chunk, and what is above
   at-value : (j : ℕ) → j < n → getD (merged b (take n bs) (drop n bs) rests) j 0
       ≡ number (take b (drop (n + j * b) bs)) + getD bs j 0 * (2 ^ b * getD rests (sum (take j bs)) 0)
@@ -116,7 +155,7 @@ module _ (b n : ℕ) (bs rests : List ℕ) (hb : 1 ≤ b) (h8 : b ≤ 8) (w : Wi
       rw (at-value j h) (bit-lt (number (take b (drop (n + j * b) bs))) (getD bs j 0) (getD rests (sum (take j bs)) 0) (w j) top)
     where
       rest-small : (q : ℕ) → getD rests q 0 < 2 ^ (32 - b)
-      rest-small q = elim (decLe (length rests) q) [ yes k ↦ rw (List·getD-eq-default rests 0 k) (pow-pos (32 - b)) | no k ↦ below-at (2 ^ (32 - b)) rests small q (omega arith) ]
+      rest-small q = elim (decLe (length rests) q) [ yes k ↦ rw (List·getD-eq-default rests 0 k) (pow-pos (32 - b)) | no k ↦ from-one-at (2 ^ (32 - b)) rests small q (omega arith) .1 ]
 
       bit-lt : (c m x : ℕ) → m < 2 → x * 2 ^ b + c < 2 ^ 32 → c + m * (2 ^ b * x) < 2 ^ 32
       bit-lt c zero x h k = omega arith
@@ -134,42 +173,22 @@ module _ (b n : ℕ) (bs rests : List ℕ) (hb : 1 ≤ b) (h8 : b ≤ 8) (w : Wi
   }
 
 pub layers-fetches : (f b n : ℕ) (bs vs : List ℕ) → 1 ≤ b → b ≤ 8 → Within 1 bs → decodedLayers f b n bs ≡ all vs → Fetches b n bs vs
-unfolding decodedLayers
-layers-fetches zero b n bs vs hb h8 w e = none (eqb n 0) refl e
-  where
-    none : (t : Bool) → eqb n 0 ≡ t → cond t (all []) undecoded ≡ all vs → Fetches b n bs vs
-    none true p q =
-        let z = eqb-true n 0 p in
-        let v : vs ≡ [] = sym (ap (decodedOr0 0) q) in
-        record { count = rw (v, z) refl; within = λ j. rw v (pow-pos 32); found = λ j h. absurd (omega arith) }
-    none false p q = absurd (true≢false (sym (ap isDecoded q)))
+layers-fetches zero b n bs vs hb h8 w e =
+    let t = none-told b n bs vs e in
+    rw (t .1) (record { count = sym (t .0); within = λ j. pow-pos 32; found = λ j h. absurd (omega arith) })
 layers-fetches (suc f) b n bs vs hb h8 w e =
-    whole (ltb (length bs) (n + n * b)) refl (decodedLayers f b (sum (take n bs)) (drop (n + n * b) bs))
-    (λ rests. layers-fetches f b (sum (take n bs)) (drop (n + n * b) bs) rests hb h8 (within-drop 1 (n + n * b) bs w)) e
-  where
-    whole : (t : Bool) → ltb (length bs) (n + n * b) ≡ t → (d : Decoded) → ((rests : List ℕ) → d ≡ all rests → Fetches b (sum (take n bs)) (drop (n + n * b) bs) rests)
-        → cond t undecoded (layered b (take n bs) (drop n bs) d) ≡ all vs → Fetches b n bs vs
-    whole true p d later q = absurd (true≢false (sym (ap isDecoded q)))
-    whole false p undecoded later q = absurd (true≢false (sym (ap isDecoded q)))
-    whole false p (all rests) later q = fit (below (2 ^ (32 - b)) rests) refl q
-      where
-        fit : (t : Bool) → below (2 ^ (32 - b)) rests ≡ t → cond t (all (merged b (take n bs) (drop n bs) rests)) undecoded ≡ all vs → Fetches b n bs vs
-        fit true s q' = rw (← (ap (decodedOr0 0) q')) (layer-fetches b n bs rests hb h8 w (ltb-false (length bs) (n + n * b) p) s (later rests refl))
-        fit false s q' = absurd (true≢false (sym (ap isDecoded q')))
+    let t = layer-told f b n bs vs e in
+    rw (t .values) (layer-fetches b n bs (t .rests) hb h8 w (t .whole) (t .small)
+    (layers-fetches f b (sum (take n bs)) (drop (n + n * b) bs) (t .rests) hb h8 (within-drop 1 (n + n * b) bs w) (t .after)))
 
 -- a fixed code, and any
 fixed-fetches : (w n : ℕ) (bs vs : List ℕ) → kindDecoded (Fixed w) n bs ≡ all vs → (length vs ≡ n) × ((j : ℕ) → j < n → fixedAt w j bs ≡ value (getD vs j 0))
-unfolding kindDecoded
-fixed-fetches w n bs vs e = go (ltb (length bs) (n * w)) refl e
-  where
-    go : (t : Bool) → ltb (length bs) (n * w) ≡ t → cond t undecoded (all (numbers w n bs)) ≡ all vs → (length vs ≡ n) × ((j : ℕ) → j < n → fixedAt w j bs ≡ value (getD vs j 0))
-    go true p q = absurd (true≢false (sym (ap isDecoded q)))
-    go false p q =
-        let l = ltb-false (length bs) (n * w) p in
-        rw (← (ap (decodedOr0 0) q)) (
-          length-numbers w n bs,
-          λ j h. let k : j + 1 ≤ n = omega arith in fixed-inside w j bs (le-trans (mul-le-mul-right w k) l) ∙ ap value (sym (numbers-at w n bs j h)),
-        )
+fixed-fetches w n bs vs e =
+    let t = fixed-told w n bs vs e in
+    rw (t .1) (
+      length-numbers w n bs,
+      λ j h. let k : j + 1 ≤ n = omega arith in fixed-inside w j bs (le-trans (mul-le-mul-right w k) (t .0)) ∙ ap value (sym (numbers-at w n bs j h)),
+    )
 
 pub decoded-fetched : DecodeFetches
 unfolding kindDecoded fetched

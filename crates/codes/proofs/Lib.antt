@@ -5,6 +5,7 @@ pub mod Bits
 pub mod BitsWritten
 pub mod ChunkCounts
 pub mod CodeByte
+pub mod DecodedParts
 pub mod Decodes
 pub mod Fetches
 pub mod Layers

@@ -1,6 +1,6 @@
 -- A layer merged with the layers after it, from the last value to the first, and values that leave room for more bits.
 use mathlib.Core.Path.{_≡_, refl, sym, ap, _∙_}
-use mathlib.Core.Bool.{Bool, true, false, and-eq-true-iff}
+use mathlib.Core.Bool.{Bool, true, false, _&&_, and-eq-true-iff}
 use mathlib.Core.List.{List, [], _∷_}
 use Prim.Native.Nat.{ℕ, zero, suc, _+_, _-_, _*_, _^_, _≤_, _<_}
 use native.Mathlib.Nat.{not-suc-le-zero, le-of-suc-le-suc, zero-mul}
@@ -11,7 +11,7 @@ use lib.Dec.{eqb, ltb}
 use borrow.Author.Tests.{lt-ltb, ltb-true, eqb-true, eqb-false}
 use Rattle.codes.specs.Bits.{number, sum}
 use Rattle.codes.specs.Codes.{Within}
-use Rattle.codes.specs.Decode.{merged, below}
+use Rattle.codes.specs.Decode.{merged, fromOne}
 use Rattle.codes.specs.Merging.{Merging, Small}
 use Rattle.codes.proofs.Bits.{sum-take-suc, sum-le}
 
@@ -84,18 +84,26 @@ merging-last b ms bs rests vs kept n e l was =
 
 -- ---- values that leave room
 
-pub below-all : (limit : ℕ) (vs : List ℕ) → ((q : ℕ) → q < length vs → getD vs q 0 < limit) → below limit vs ≡ true
-below-all limit [] h = refl
-below-all limit (v ∷ vs) h = rw (lt-ltb v limit (h 0 (omega arith))) (below-all limit vs (λ q k. h (suc q) (omega arith)))
+-- what the test says of one value
+abbrev pub FromOne : ℕ → ℕ → Type 0
+FromOne limit v = (1 ≤ v) × (v < limit)
 
-pub below-at : (limit : ℕ) (vs : List ℕ) → below limit vs ≡ true → (q : ℕ) → q < length vs → getD vs q 0 < limit
-below-at limit [] h q k = absurd (not-suc-le-zero k)
-below-at limit (v ∷ vs) h zero k = ltb-true v limit (and-eq-true-iff (ltb v limit) (below limit vs) .0 h .0)
-below-at limit (v ∷ vs) h (suc q) k = below-at limit vs (and-eq-true-iff (ltb v limit) (below limit vs) .0 h .1) q (le-of-suc-le-suc k)
+pub from-one-all : (limit : ℕ) (vs : List ℕ) → ((q : ℕ) → q < length vs → FromOne limit (getD vs q 0)) → fromOne limit vs ≡ true
+from-one-all limit [] h = refl
+from-one-all limit (v ∷ vs) h =
+    let k = h 0 (omega arith) in
+    rw (lt-ltb 0 v (k .0), lt-ltb v limit (k .1)) (from-one-all limit vs (λ q k. h (suc q) (omega arith)))
 
-pub below-not : (limit : ℕ) (vs : List ℕ) (q : ℕ) → q < length vs → limit ≤ getD vs q 0 → below limit vs ≡ false
-below-not limit vs q k l = go (below limit vs) refl
+pub from-one-at : (limit : ℕ) (vs : List ℕ) → fromOne limit vs ≡ true → (q : ℕ) → q < length vs → FromOne limit (getD vs q 0)
+from-one-at limit [] h q k = absurd (not-suc-le-zero k)
+from-one-at limit (v ∷ vs) h zero k =
+    let t = and-eq-true-iff (ltb 0 v) (ltb v limit) .0 (and-eq-true-iff (ltb 0 v && ltb v limit) (fromOne limit vs) .0 h .0) in
+    (ltb-true 0 v (t .0), ltb-true v limit (t .1))
+from-one-at limit (v ∷ vs) h (suc q) k = from-one-at limit vs (and-eq-true-iff (ltb 0 v && ltb v limit) (fromOne limit vs) .0 h .1) q (le-of-suc-le-suc k)
+
+pub from-one-not : (limit : ℕ) (vs : List ℕ) (q : ℕ) → q < length vs → (FromOne limit (getD vs q 0) → ⊥) → fromOne limit vs ≡ false
+from-one-not limit vs q k l = go (fromOne limit vs) refl
   where
-    go : (t : Bool) → below limit vs ≡ t → t ≡ false
-    go true e = absurd (omega (arith, below-at limit vs e q k))
+    go : (t : Bool) → fromOne limit vs ≡ t → t ≡ false
+    go true e = absurd (l (from-one-at limit vs e q k))
     go false e = refl

@@ -9,15 +9,15 @@ use lib.ListN.{length, take, drop, getD, replicate, length-append, length-map}
 use lib.Seq.{take-append-add, drop-append-add, take-at, drop-at}
 use lib.Dec.{eqb}
 use lib.Pow.{shr-lt}
-use borrow.Author.Tests.{lt-ltb, eqb-true}
+use borrow.Author.Tests.{lt-ltb, eqb-true, eqb-false}
 use Rattle.codes.specs.declared.kinds.Kind.{Kind}
 use Rattle.codes.specs.declared.kinds.Kind.the-variants.{Fixed, Chunked, Refused}
 use Rattle.codes.specs.Bits.{bits, fixed, bytesFor, padded, bitsOf}
 use Rattle.codes.specs.Codes.{kindOf, continuation, rest, layers, chunked, kindBits, part, Within, Holds}
 use Rattle.codes.specs.Fetch.{value, chunkedAt, kindFetched, fetched}
-use Rattle.codes.specs.Decode.{all, merged, below, decodedLayers, kindDecoded}
+use Rattle.codes.specs.Decode.{all, merged, fromOne, decodedLayers, kindDecoded}
 use Rattle.codes.specs.Promises.{Known, DecodeBack}
-use Rattle.codes.proofs.Bits.{within-append, bits-fixed, length-bits, length-fixed, number-bits, fixed-append, bytes-bits, fixed-fetch}
+use Rattle.codes.proofs.Bits.{within-append, bits-fixed, length-bits, length-fixed, number-bits, fixed-append, numbers-bits, within-numbers, fixed-fetch}
 use Rattle.codes.proofs.CodeByte.{kind-known}
 use Rattle.codes.proofs.Decodes.{fixed-decoded, numbers-are, layers-none, layers-step}
 use Rattle.codes.proofs.Fetches.{fixed-inside, fetch-enough, layers-back}
@@ -25,19 +25,26 @@ use Rattle.codes.proofs.Layers.{sum-continuations, within-rest, within-
 use Rattle.codes.proofs.Lists.{zeros-at}
 
 -- the zero bits that pad so many bits
-abbrev padding : ℕ → List ℕ
+abbrev pub padding : ℕ → List ℕ
 padding n = take (bytesFor n * 8 - n) (replicate 7 0)
 
-bits-padded : (bs : List ℕ) → Within 1 bs → bitsOf (padded bs) ≡ bs ++ padding (length bs)
+padding-bits : (bs : List ℕ) → Within 1 bs → Within 1 (bs ++ replicate 7 0)
+padding-bits bs h = within-append 1 bs (replicate 7 0) h (λ j. rw (zeros-at 7 j) (omega arith))
+
+pub bits-padded : (bs : List ℕ) → Within 1 bs → bitsOf (padded bs) ≡ bs ++ padding (length bs)
 unfolding padded
 bits-padded bs h =
     let n = length bs in
     let k = bytesFor n in
     let e : k * 8 ≡ n + (k * 8 - n) = omega arith in
-    bytes-bits k (bs ++ replicate 7 0) (within-append 1 bs (replicate 7 0) h (λ j. rw (zeros-at 7 j) (omega arith))) (simp length-append (omega arith))
+    numbers-bits 8 k (bs ++ replicate 7 0) (padding-bits bs h) (simp length-append (omega arith))
     ∙ ap (λ (m : ℕ). take m (bs ++ replicate 7 0)) e ∙ take-append-add bs (replicate 7 0) (k * 8 - n)
 
-bits-kind : (k : Kind) (vs : List ℕ) → Within 1 (kindBits k vs)
+pub within-padded : (bs : List ℕ) → Within 1 bs → Within 8 (padded bs)
+unfolding padded
+within-padded bs h = within-numbers 8 (bytesFor (length bs)) (bs ++ replicate 7 0) (padding-bits bs h)
+
+pub bits-kind : (k : Kind) (vs : List ℕ) → Within 1 (kindBits k vs)
 unfolding kindBits
 bits-kind (Fixed w) vs j = bits-fixed w vs j
 bits-kind (Chunked b) vs j = bits-layers 32 b vs j
@@ -98,17 +105,17 @@ merged-back b (v ∷ vs) after =
         let x : v % 2 ^ b + 1 * (2 ^ b * (v / 2 ^ b)) ≡ v = omega (arith, mod-add-div v (2 ^ b)) in
         rw (x, ih)
 
-rest-small : (b : ℕ) (vs : List ℕ) → b ≤ 8 → Within 32 vs → below (2 ^ (32 - b)) (rest b vs) ≡ true
+rest-small : (b : ℕ) (vs : List ℕ) → b ≤ 8 → Within 32 vs → fromOne (2 ^ (32 - b)) (rest b vs) ≡ true
 unfolding rest
 rest-small b [] h w = refl
-rest-small b (v ∷ vs) h w = go (eqb (v / 2 ^ b) 0) (rest-small b vs h (λ j. w (suc j)))
+rest-small b (v ∷ vs) h w = go (eqb (v / 2 ^ b) 0) refl (rest-small b vs h (λ j. w (suc j)))
   where
     small : v / 2 ^ b < 2 ^ (32 - b)
     small = let e : 32 - b + b ≡ 32 = omega arith in shr-lt (32 - b) b (rw e (w 0))
 
-    go : (t : Bool) → below (2 ^ (32 - b)) (rest b vs) ≡ true → below (2 ^ (32 - b)) (cond t (rest b vs) (v / 2 ^ b ∷ rest b vs)) ≡ true
-    go true ih = ih
-    go false ih = rw (lt-ltb (v / 2 ^ b) (2 ^ (32 - b)) small) ih
+    go : (t : Bool) → eqb (v / 2 ^ b) 0 ≡ t → fromOne (2 ^ (32 - b)) (rest b vs) ≡ true → fromOne (2 ^ (32 - b)) (cond t (rest b vs) (v / 2 ^ b ∷ rest b vs)) ≡ true
+    go true e ih = ih
+    go false e ih = rw (lt-ltb 0 (v / 2 ^ b) (omega (arith, eqb-false (v / 2 ^ b) 0 e)), lt-ltb (v / 2 ^ b) (2 ^ (32 - b)) small) ih
 
 -- one layer, where those after it are decoded to what is left
 layer-decoded : (f b : ℕ) (vs after : List ℕ) → b ≤ 8 → Within 32 vs → decodedLayers f b (length (rest b vs)) (layers f b (rest b vs) ++ after) ≡ all (rest b vs)

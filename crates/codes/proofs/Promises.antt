@@ -2,11 +2,12 @@
 use native.Mathlib.Omega.{arith}
 use Rattle.codes.specs.declared.kinds.Kind.the-variants.{Chunked}
 use Rattle.codes.specs.Codes.{kindBits, levelBits}
-use Rattle.codes.specs.Promises.{RoundTrip, Lengths, BestChoice, CodeKnown, LeastWidth, DecodeFetches, DecodeBack}
+use Rattle.codes.specs.Promises.{RoundTrip, Lengths, BestChoice, CodeKnown, LeastWidth, DecodeFetches, DecodeBack, DecodedPart}
 use Rattle.codes.proofs.Best.{chosen-holds, chosen-size, chosen-first, chosen-at-most}
 use Rattle.codes.proofs.Bits.{length-fixed, length-padded}
 use Rattle.codes.proofs.ChunkCounts.{chunked-length}
 use Rattle.codes.proofs.CodeByte.{kind-told}
+use Rattle.codes.proofs.DecodedParts.{part-spelled}
 use Rattle.codes.proofs.Decodes.{decoded-fetched}
 use Rattle.codes.proofs.Parts.{part-back, part-decoded}
 use Rattle.codes.proofs.Widths.{width-holds, width-least}
@@ -42,3 +43,6 @@ decode-fetches = decoded-fetched
 
 pub decode-back : DecodeBack
 decode-back = part-decoded
+
+pub decoded-part : DecodedPart
+decoded-part = part-spelled

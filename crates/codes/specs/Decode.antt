@@ -20,13 +20,15 @@ unfoldable pub merged : ℕ → List ℕ → List ℕ → List ℕ → List ℕ
 merged b [] bs rests = []
 merged b (m ∷ ms) bs rests = (number (take b bs) + m * (2 ^ b * getD rests 0 0)) ∷ merged b ms (drop b bs) (drop m rests)
 
-abbrev pub below : ℕ → List ℕ → Bool
-below limit [] = true
-below limit (v ∷ vs) = ltb v limit && below limit vs
+-- every value is at least 1, and below the limit
+abbrev pub fromOne : ℕ → List ℕ → Bool
+fromOne limit [] = true
+fromOne limit (v ∷ vs) = ltb 0 v && ltb v limit && fromOne limit vs
 
--- those of the layers after must leave room for b bits more in a value
+-- Those of the layers after must leave room for b bits more in a value, and none may be 0: no part that encode writes has a chunk of
+-- zeros on top.
 abbrev pub layered : ℕ → List ℕ → List ℕ → Decoded → Decoded
-layered b ms bs (all rests) = cond (below (2 ^ (32 - b)) rests) (all (merged b ms bs rests)) undecoded
+layered b ms bs (all rests) = cond (fromOne (2 ^ (32 - b)) rests) (all (merged b ms bs rests)) undecoded
 layered b ms bs undecoded = undecoded
 
 -- n values in at most f layers, each of which must lie whole in the part

@@ -1,6 +1,6 @@
 -- Levels with the parts that they must have, computed. The first three are those of list A, marked in 01, of which the third ties at
 -- 15 bits for b = 2 and b = 4. The next is that of the list 0. The last ties at 12 bits for width 3 and b = 1.
-use mathlib.Core.Bool.{Bool, true, false, _&&_}
+use mathlib.Core.Bool.{Bool, true, false, not, _&&_}
 use mathlib.Core.Path.{_≡_, refl}
 use mathlib.Core.List.{List, [], _∷_}
 use Prim.Native.Nat.{ℕ, _+_}
@@ -11,7 +11,7 @@ use Rattle.codes.specs.Bits.{bits, number, sum, fixed, numbers, padded}
 use Rattle.codes.specs.Codes.{kindOf, rest, layers, kindBits, part}
 use Rattle.codes.specs.Choice.{widthIn, widest, bestChunked, chosen}
 use Rattle.codes.specs.Fetch.{Fetched, value, outside, fixedAt, fetchLayers, chunkedAt, fetched}
-use Rattle.codes.specs.Decode.{Decoded, all, undecoded, merged, decodedLayers, kindDecoded, decoded}
+use Rattle.codes.specs.Decode.{Decoded, all, undecoded, merged, decodedLayers, kindDecoded, decoded, isDecoded}
 
 -- a level with the code that pack chooses for it, and its part
 pub record Level : Type 0 where
@@ -54,3 +54,8 @@ allPass (l ∷ ls) = passes l && allPass ls
 pub marked-pass : allPass marked ≡ true
 unfolding bits number sum fixed numbers padded kindOf rest layers kindBits widthIn widest bestChunked chosen fixedAt fetchLayers chunkedAt fetched merged decodedLayers kindDecoded
 marked-pass = refl
+
+-- A value with a chunk of zeros on top is fetched, and not decoded: the bits 11 00 with b = 1.
+pub zeros-on-top : (is 1 (fetched 65 1 0 (0xc0 ∷ [])) && not (isDecoded (decoded 65 1 (0xc0 ∷ [])))) ≡ true
+unfolding bits number sum fixed kindOf fetchLayers chunkedAt fetched merged decodedLayers kindDecoded
+zeros-on-top = refl

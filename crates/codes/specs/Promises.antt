@@ -1,12 +1,12 @@
 -- What is shown of the level codes besides each function's contract. proofs/Promises proves each, as
--- `round-trip`, `lengths`, `best-choice`, `code-known`, `least-width`, `decode-fetches` and `decode-back`.
+-- `round-trip`, `lengths`, `best-choice`, `code-known`, `least-width`, `decode-fetches`, `decode-back` and `decoded-part`.
 use mathlib.Core.Path.{_≡_}
 use mathlib.Core.List.{List, _++_, map}
 use Prim.Native.Nat.{ℕ, _+_, _*_, _^_, _≤_, _<_}
 use lib.ListN.{length, getD}
 use Rattle.codes.specs.declared.kinds.Kind.{Kind}
 use Rattle.codes.specs.declared.kinds.Kind.the-variants.{Fixed, Chunked, Refused}
-use Rattle.codes.specs.Bits.{sum, bytesFor}
+use Rattle.codes.specs.Bits.{sum, bitsOf, bytesFor}
 use Rattle.codes.specs.Codes.{kindOf, part, Within, Holds}
 use Rattle.codes.specs.Choice.{widthIn, chunks, size, chosen}
 use Rattle.codes.specs.Fetch.{value, fetched}
@@ -58,3 +58,8 @@ DecodeFetches = (code n : ℕ) (bytes vs : List ℕ) → decoded code n bytes �
 -- 7. By any code that holds the values, their part is decoded to them.
 abbrev pub DecodeBack : Type 0
 DecodeBack = (code : ℕ) (vs : List ℕ) → Holds (kindOf code) vs → decoded code (length vs) (part code vs) ≡ all vs
+
+-- 8. What is decoded has the bytes as its part, where they are as many as the part's and no bit after the level's is 1.
+abbrev pub DecodedPart : Type 0
+DecodedPart = (code n : ℕ) (bytes vs : List ℕ) → decoded code n bytes ≡ all vs → Within 8 bytes → length bytes ≡ bytesFor (size code vs)
+    → ((j : ℕ) → size code vs ≤ j → getD (bitsOf bytes) j 0 ≡ 0) → part code vs ≡ bytes

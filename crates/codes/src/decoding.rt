@@ -15,7 +15,7 @@ ghost use Prim.Native.Nat.{ℕ, _+_, _-_, _*_, _^_, _<_, _≤_};
 ghost use lib.ListN.{length, take, drop};
 ghost use Rattle.codes.specs.Bits.{sum, bitsOf};
 ghost use Rattle.codes.specs.Radix.{IsRadix};
-ghost use Rattle.codes.specs.Decode.{merged, below, decodedLayers, kindDecoded, decoded, isDecoded, decodedOr0};
+ghost use Rattle.codes.specs.Decode.{merged, fromOne, decodedLayers, kindDecoded, decoded, isDecoded, decodedOr0};
 ghost use Rattle.codes.specs.Merging.{continuationsAt, chunksAt, Small, Merging, Says};
 ghost use Rattle.codes.specs.declared.kinds.Kind.the-variants.{Fixed};
 
@@ -43,15 +43,16 @@ fn decode_fixed(values: &mut [u32], part: &[u8], w: usize) -> bool
     true
 }
 
-// Whether the first `n` values are below 2 to the power of 32 - `b`, so that b bits more leave them values.
+// Whether the first `n` values are at least 1 and below 2 to the power of 32 - `b`, so that b bits more leave them values. Of 0 one less
+// wraps, and is no less than any limit.
 fn all_small(values: &[u32], n: usize, b: usize) -> bool
     requires { ⌜ (1 ≤ b) × (b ≤ 8) × (n ≤ length (now values)) ⌝ }
-    ensures { λ r. ⌜ r ≡ below (2 ^ (32 - b)) (take n (now (values .entry))) ⌝ }
+    ensures { λ r. ⌜ r ≡ fromOne (2 ^ (32 - b)) (take n (now (values .entry))) ⌝ }
 {
-    let limit = 1u32 << (32 - b);
+    let limit = (1u32 << (32 - b)) - 1;
     let mut i: usize = 0;
     while i < n {
-        if values[i] >= limit {
+        if std::num::wrapping_sub_u32(values[i], 1) >= limit {
             return false;
         }
         i += 1;

@@ -8,7 +8,7 @@ use lib.Seq.{length-take-le, getD-take}
 use Rattle.codes.specs.Bits.{bitsOf}
 use Rattle.codes.specs.Decode.{layered, decodedLayers}
 use Rattle.codes.proofs.Bits.{length-fixed}
-use Rattle.codes.proofs.Merges.{below-at}
+use Rattle.codes.proofs.Merges.{from-one-at}
 use Rattle.codes.proofs.Decodes.{layers-none, layers-stopped, layers-short, layers-at, says-no, says-yes, not-true, not-false}
 use borrow.Fn.Kinds.{In, Out}
 use borrow.Fn.PlainCycle.{Measures, is, falls, and}
@@ -132,8 +132,8 @@ merge-requires t c κs =
     let d = c .before .before .before .before .before .before .before .decode-layers .last .0 in
     let e : a .at + a .n - a .at ≡ a .n = omega arith in
     let n = length-take-le (r .result) d (omega arith) in
-    let small = below-at (2 ^ (32 - a .b)) (take (r .result) d) (sym (c .before .before .all-small .ensures) ∙ not-false (c .before .before .all-small .result) (c .before .if5 .left)) in
-    (omega arith, (rw e at (r .ensures .1), λ q h. rw (getD-take (r .result) d q 0 h) at (small q (omega arith))))
+    let small = from-one-at (2 ^ (32 - a .b)) (take (r .result) d) (sym (c .before .before .all-small .ensures) ∙ not-false (c .before .before .all-small .result) (c .before .if5 .left)) in
+    (omega arith, (rw e at (r .ensures .1), λ q h. rw (getD-take (r .result) d q 0 h) at (small q (omega arith) .1)))
 
 same-length-3 : (t : ℕ) → lts.Need-same-length-3 (calls t) (given t) reads.Post
 same-length-3 t c = omega arith
