@@ -68,6 +68,22 @@ unfolding number
 number-lt [] h e = rw (← e) (omega arith)
 number-lt (b ∷ bs) h e = rw (← e, ← (one-add (length bs)), pow-add) (digits-lt {c = 2 ^ length bs} (h 0) (number-lt bs (λ j. h (suc j)) refl))
 
+-- bits spell 0 where each is 0
+pub number-zero : (bs : List ℕ) → number bs ≡ 0 → (j : ℕ) → getD bs j 0 ≡ 0
+unfolding number
+number-zero [] e j = refl
+number-zero (b ∷ bs) e zero = none b (omega arith)
+  where
+    none : (b : ℕ) → b * 2 ^ length bs ≡ 0 → b ≡ 0
+    none zero h = refl
+    none (suc b) h = absurd (omega (arith, pow-pos (length bs)))
+number-zero (b ∷ bs) e (suc j) = number-zero bs (omega arith) j
+
+pub zeros-number : (bs : List ℕ) → ((j : ℕ) → getD bs j 0 ≡ 0) → number bs ≡ 0
+unfolding number
+zeros-number [] h = refl
+zeros-number (b ∷ bs) h = rw (h 0, zeros-number bs (λ j. h (suc j))) (omega arith)
+
 -- bits w looks only at the w lowest bits
 pub bits-low : (w a x : ℕ) → bits w (a * 2 ^ w + x) ≡ bits w x
 unfolding bits

@@ -1,26 +1,27 @@
 -- What is decoded spells the part again: the bits of a level that is decoded are those that encode writes for its values.
 use mathlib.Core.Path.{_≡_, refl, sym, ap, _∙_}
-use mathlib.Core.Bool.{false}
+use mathlib.Core.Bool.{Bool, true, false}
 use mathlib.Core.List.{List, [], _∷_, _++_, map}
 use Prim.Native.Nat.{ℕ, zero, suc, _+_, _-_, _*_, _/_, _^_, _≤_, _<_}
 use native.Mathlib.Nat.{zero-mul}
 use native.Mathlib.Omega.{arith}
 use lib.ListN.{length, take, drop, getD, replicate, length-append, length-drop, take-append-drop}
-use lib.Seq.{take-add, drop-drop, length-take-le, getD-take, getD-drop, ext-getD}
+use lib.Seq.{take-add, drop-drop, drop-append-seam, length-take-le, getD-drop, ext-getD}
 use lib.Dec.{eqb}
 use lib.Pow.{high}
-use borrow.Author.Tests.{ne-eqb}
+use borrow.Author.Tests.{ne-eqb, eqb-true, eqb-false}
 use Rattle.codes.specs.declared.kinds.Kind.{Kind}
 use Rattle.codes.specs.declared.kinds.Kind.the-variants.{Fixed, Chunked, Refused}
+use Rattle.codes.specs.Lists.{same}
 use Rattle.codes.specs.Bits.{bits, number, sum, fixed, bitsOf, bytesFor}
 use Rattle.codes.specs.Codes.{kindOf, continuation, rest, layers, kindBits, levelBits, part, Within}
 use Rattle.codes.specs.Choice.{size}
-use Rattle.codes.specs.Decode.{all, merged, decodedLayers, kindDecoded}
+use Rattle.codes.specs.Decode.{all, merged, decodedLayers, kindDecoded, decoded}
 use Rattle.codes.specs.Promises.{Known, DecodedPart}
-use Rattle.codes.proofs.Bits.{within-take, within-drop, bits-fixed, length-fixed, length-numbers, length-padded, number-take-lt, bits-low, bits-number, numbers-bits, fixed-same}
+use Rattle.codes.proofs.Bits.{within-take, within-drop, bits-fixed, length-fixed, length-numbers, length-padded, number-take-lt, bits-low, bits-number, number-zero, zeros-number, numbers-bits, fixed-same}
 use Rattle.codes.proofs.CodeByte.{kind-known}
 use Rattle.codes.proofs.Decodes.{fixed-told, layer-told, layers-fetches}
-use Rattle.codes.proofs.Lists.{zeros-at}
+use Rattle.codes.proofs.Lists.{zeros-taken, same-itself, not-same}
 use Rattle.codes.proofs.Merges.{from-one-at}
 use Rattle.codes.proofs.Parts.{padding, bits-padded, within-padded, bits-kind}
 
@@ -121,7 +122,26 @@ part-spelled code n bytes vs e w l z =
     let lp : length (padding m) ≡ bytesFor m * 8 - m = length-take-le (bytesFor m * 8 - m) (replicate 7 0) (omega arith) in
     let zeros : drop m bs ≡ padding m =
     ext-getD 0 (drop m bs) (padding m) (ld ∙ sym lp) (λ j h.
-    getD-drop m bs j 0 ∙ z (m + j) (omega arith) ∙ sym (getD-take (bytesFor m * 8 - m) (replicate 7 0) j 0 (rw ld at h) ∙ zeros-at 7 j)) in
+    getD-drop m bs j 0 ∙ z (m + j) (omega arith) ∙ sym (zeros-taken (bytesFor m * 8 - m) 7 j)) in
     fixed-same 8 (part code vs) bytes (length-padded level ∙ sym l) (within-padded level (bits-kind (kindOf code) vs)) w
     (bits-padded level (bits-kind (kindOf code) vs) ∙ rw (← zeros)
     (ap (λ (t : List ℕ). t ++ drop m bs) (sym (level-spelled code n bs vs (bits-fixed 8 bytes) e)) ∙ take-append-drop m bs))
+
+-- the bits after a level's are the padding's
+after-level : (code : ℕ) (vs : List ℕ) → number (drop (size code vs) (bitsOf (part code vs))) ≡ 0
+after-level code vs =
+    let level = levelBits code vs in
+    let m = size code vs in
+    rw (bits-padded level (bits-kind (kindOf code) vs), drop-append-seam level (padding m)) (zeros-number (padding m) (zeros-taken (bytesFor m * 8 - m) 7))
+
+-- a part that is decoded is its values' where no bit after the level's is 1
+pub same-part : (code n : ℕ) (bytes vs : List ℕ) → decoded code n bytes ≡ all vs → Within 8 bytes → length bytes ≡ bytesFor (size code vs)
+    → same (part code vs) bytes ≡ eqb (number (drop (size code vs) (bitsOf bytes))) 0
+same-part code n bytes vs e w l = go (eqb (number (drop (size code vs) (bitsOf bytes))) 0) refl
+  where
+    go : (t : Bool) → eqb (number (drop (size code vs) (bitsOf bytes))) 0 ≡ t → same (part code vs) bytes ≡ t
+    go true z =
+        let m = size code vs in
+        let none = number-zero (drop m (bitsOf bytes)) (eqb-true _ 0 z) in
+        rw (part-spelled code n bytes vs e w l (λ j h. let k : m + (j - m) ≡ j = omega arith in rw (getD-drop m (bitsOf bytes) (j - m) 0, k) at (none (j - m)))) (same-itself bytes)
+    go false z = not-same (part code vs) bytes (λ p. eqb-false _ 0 z (rw p at (after-level code vs)))

@@ -3,6 +3,7 @@
 pub mod Best
 pub mod Bits
 pub mod BitsWritten
+pub mod ChosenParts
 pub mod ChunkCounts
 pub mod CodeByte
 pub mod DecodedParts

@@ -1,14 +1,15 @@
--- Lists that agree from one place on, lists whose first entries are known, and lists of zeros.
+-- Lists that agree from one place on, lists whose first entries are known, lists of zeros, and the test whether two lists are the same.
 use mathlib.Core.Path.{_≡_, refl, sym, ap, _∙_}
-use mathlib.Core.Bool.{Bool, true, false}
-use mathlib.Core.List.{List}
+use mathlib.Core.Bool.{Bool, true, false, true≢false, and-eq-true-iff}
+use mathlib.Core.List.{List, [], _∷_}
 use Prim.Native.Nat.{ℕ, zero, suc, _+_, _-_, _≤_, _<_}
 use native.Mathlib.Nat.{add-zero}
 use native.Mathlib.Omega.{arith}
-use lib.ListN.{length, drop, set, getD, replicate}
+use lib.ListN.{length, take, drop, set, getD, replicate}
 use lib.Seq.{drop-drop, getD-drop, getD-set-same, getD-set-other}
 use lib.Dec.{eqb}
-use borrow.Author.Tests.{eqb-true, eqb-false}
+use borrow.Author.Tests.{eq-eqb, eqb-true, eqb-false}
+use Rattle.codes.specs.Lists.{same}
 
 module _ {ℓ} {A : Type ℓ} (xs ys : List A) (n : ℕ) (e : drop n xs ≡ drop n ys) where
   pub drop-later : (m : ℕ) → n ≤ m → drop m xs ≡ drop m ys
@@ -32,3 +33,28 @@ pub zeros-at : (n t : ℕ) → _≡_ {A = ℕ} (getD (replicate n 0) t 0) 0
 zeros-at zero t = refl
 zeros-at (suc n) zero = refl
 zeros-at (suc n) (suc t) = zeros-at n t
+
+pub zeros-taken : (m n t : ℕ) → _≡_ {A = ℕ} (getD (take m (replicate n 0)) t 0) 0
+zeros-taken zero n t = refl
+zeros-taken (suc m) zero t = refl
+zeros-taken (suc m) (suc n) zero = refl
+zeros-taken (suc m) (suc n) (suc t) = zeros-taken m n t
+
+pub same-lists : (xs ys : List ℕ) → same xs ys ≡ true → xs ≡ ys
+same-lists [] [] h = refl
+same-lists [] (y ∷ ys) h = absurd (true≢false (sym h))
+same-lists (x ∷ xs) [] h = absurd (true≢false (sym h))
+same-lists (x ∷ xs) (y ∷ ys) h =
+    let b = and-eq-true-iff (eqb x y) (same xs ys) .0 h in
+    rw (eqb-true x y (b .0), same-lists xs ys (b .1))
+
+pub same-itself : (xs : List ℕ) → same xs xs ≡ true
+same-itself [] = refl
+same-itself (x ∷ xs) = rw (eq-eqb x x refl) (same-itself xs)
+
+pub not-same : (xs ys : List ℕ) → (xs ≡ ys → ⊥) → same xs ys ≡ false
+not-same xs ys h = go (same xs ys) refl
+  where
+    go : (t : Bool) → same xs ys ≡ t → t ≡ false
+    go true e = absurd (h (same-lists xs ys e))
+    go false e = refl

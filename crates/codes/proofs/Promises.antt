@@ -2,9 +2,10 @@
 use native.Mathlib.Omega.{arith}
 use Rattle.codes.specs.declared.kinds.Kind.the-variants.{Chunked}
 use Rattle.codes.specs.Codes.{kindBits, levelBits}
-use Rattle.codes.specs.Promises.{RoundTrip, Lengths, BestChoice, CodeKnown, LeastWidth, DecodeFetches, DecodeBack, DecodedPart}
+use Rattle.codes.specs.Promises.{RoundTrip, Lengths, BestChoice, CodeKnown, LeastWidth, DecodeFetches, DecodeBack, DecodedPart, ChosenParts}
 use Rattle.codes.proofs.Best.{chosen-holds, chosen-size, chosen-first, chosen-at-most}
 use Rattle.codes.proofs.Bits.{length-fixed, length-padded}
+use Rattle.codes.proofs.ChosenParts.{chosen-told}
 use Rattle.codes.proofs.ChunkCounts.{chunked-length}
 use Rattle.codes.proofs.CodeByte.{kind-told}
 use Rattle.codes.proofs.DecodedParts.{part-spelled}
@@ -46,3 +47,6 @@ decode-back = part-decoded
 
 pub decoded-part : DecodedPart
 decoded-part = part-spelled
+
+pub chosen-parts : ChosenParts
+chosen-parts = chosen-told

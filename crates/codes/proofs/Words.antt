@@ -2,16 +2,16 @@
 use mathlib.Core.Path.{_≡_, refl, _∙_}
 use mathlib.Core.List.{List, [], _∷_, append-nil}
 use Prim.Native.Nat.{ℕ, zero, suc, _+_, _-_, _*_, _/_, _%_, _^_, _≤_, _<_, min}
-use native.Mathlib.Nat.{min-eq-left, min-eq-right}
+use native.Mathlib.Nat.{min-eq-left, min-eq-right, div-one}
 use native.Mathlib.Numerals.{add-one}
 use native.Mathlib.Decide.{decLe}
 use native.Mathlib.Omega.{arith}
 use lib.ListN.{length, take, drop, getD, length-drop}
-use lib.Seq.{take-take, take-add, drop-drop, length-take-le}
+use lib.Seq.{take-all, take-take, take-add, drop-drop, length-take-le}
 use lib.Arith.{digits-lt}
 use lib.Count.{ones, ones-cat}
 use lib.Pow.{pow-add, low, high}
-use Rattle.codes.specs.Bits.{number, sum, bitsOf}
+use Rattle.codes.specs.Bits.{number, sum, bitsOf, bytesFor}
 use Rattle.codes.specs.Codes.{Within}
 use Rattle.codes.proofs.Bits.{within-take, within-drop, bits-fixed, length-fixed, fixed-fetch, number-append, number-lt, number-part, number-take-lt, sum-take-add, sum-le}
 
@@ -83,6 +83,16 @@ read-part bytes at w first n r l h k =
     let len : length (take (n * 8) d) ≡ n * 8 = length-take-le (n * 8) d (simp (length-drop, length-fixed) (omega arith)) in
     rw (e', ← (take-drop-take w s (n * 8) d (omega arith)))
     (number-part (take (n * 8) d) s w r (within-take 1 (n * 8) d (bits-from bytes (first * 8))) (omega arith))
+
+-- the bits after the first n, where they are the lowest of the last byte
+pub last-bits : (bytes : List ℕ) (n : ℕ) → length bytes ≡ bytesFor n → 1 ≤ length bytes → getD bytes (length bytes - 1) 0 < 256
+    → number (from bytes n) ≡ getD bytes (length bytes - 1) 0 % 2 ^ (length bytes * 8 - n)
+last-bits bytes n e l b =
+    let i = length bytes - 1 in
+    let w = length bytes * 8 - n in
+    let whole : take w (from bytes n) ≡ from bytes n = take-all w (from bytes n) (simp (length-drop, length-fixed) (omega arith)) in
+    let law = read-part bytes n w i 1 0 (omega arith) (omega arith) (omega arith) in
+    rw (whole, number-byte bytes i (omega arith) b, div-one (getD bytes i 0)) at law
 
 -- ---- ones in a part
 

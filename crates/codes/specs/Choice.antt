@@ -1,11 +1,12 @@
--- The code that pack chooses for a level.
-use mathlib.Core.Bool.{cond}
+-- The code that pack chooses for a level, and the test whether a part is what pack writes.
+use mathlib.Core.Bool.{Bool, cond, _&&_}
 use mathlib.Core.List.{List, [], _∷_}
 use Prim.Native.Nat.{ℕ, zero, suc, _+_, _-_, _/_, max}
 use lib.Dec.{eqb, ltb}
 use lib.ListN.{length}
 use Rattle.codes.specs.declared.choosing.Choice.{Choice}
-use Rattle.codes.specs.Codes.{levelBits}
+use Rattle.codes.specs.Lists.{same}
+use Rattle.codes.specs.Codes.{levelBits, part}
 
 -- the bits of v up to its highest one bit, of which it has at most f
 unfoldable pub widthIn : ℕ → ℕ → ℕ
@@ -45,3 +46,7 @@ bestChunked (suc k) vs = better (bestChunked k vs) (offer (66 + k) vs)
 -- the code with fewest bits; on a tie a fixed code wins
 unfoldable pub chosen : List ℕ → Choice
 chosen vs = better (offer (widest vs) vs) (bestChunked 7 vs)
+
+-- whether bytes are what pack writes for the values: their part, in the chosen code
+unfoldable pub isChosen : ℕ → List ℕ → List ℕ → Bool
+isChosen code vs bytes = eqb code (chosen vs .code) && same (part code vs) bytes

@@ -8,8 +8,8 @@ use lib.Dec.{eqb}
 use lib.ListN.{length}
 use Rattle.codes.specs.Lists.{same}
 use Rattle.codes.specs.Bits.{bits, number, sum, fixed, numbers, padded}
-use Rattle.codes.specs.Codes.{kindOf, rest, layers, kindBits, part}
-use Rattle.codes.specs.Choice.{widthIn, widest, bestChunked, chosen}
+use Rattle.codes.specs.Codes.{kindOf, rest, layers, kindBits}
+use Rattle.codes.specs.Choice.{widthIn, widest, bestChunked, chosen, isChosen}
 use Rattle.codes.specs.Fetch.{Fetched, value, outside, fixedAt, fetchLayers, chunkedAt, fetched}
 use Rattle.codes.specs.Decode.{Decoded, all, undecoded, merged, decodedLayers, kindDecoded, decoded, isDecoded}
 
@@ -44,7 +44,7 @@ are vs undecoded = false
 -- pack chooses the code, and writes the bytes, and a fetch reads each value, and decoding all of them
 abbrev passes : Level → Bool
 passes l =
-    eqb (chosen (l .values) .code) (l .code) && same (part (l .code) (l .values)) (l .bytes) && back l 0 (l .values)
+    isChosen (l .code) (l .values) (l .bytes) && back l 0 (l .values)
     && are (l .values) (decoded (l .code) (length (l .values)) (l .bytes))
 
 abbrev allPass : List Level → Bool
@@ -52,10 +52,15 @@ allPass [] = true
 allPass (l ∷ ls) = passes l && allPass ls
 
 pub marked-pass : allPass marked ≡ true
-unfolding bits number sum fixed numbers padded kindOf rest layers kindBits widthIn widest bestChunked chosen fixedAt fetchLayers chunkedAt fetched merged decodedLayers kindDecoded
+unfolding bits number sum fixed numbers padded kindOf rest layers kindBits widthIn widest bestChunked chosen isChosen fixedAt fetchLayers chunkedAt fetched merged decodedLayers kindDecoded
 marked-pass = refl
 
 -- A value with a chunk of zeros on top is fetched, and not decoded: the bits 11 00 with b = 1.
 pub zeros-on-top : (is 1 (fetched 65 1 0 (0xc0 ∷ [])) && not (isDecoded (decoded 65 1 (0xc0 ∷ [])))) ≡ true
 unfolding bits number sum fixed kindOf fetchLayers chunkedAt fetched merged decodedLayers kindDecoded
 zeros-on-top = refl
+
+-- The byte 00 is decoded to the list 0 by b = 1, and is not what pack writes: refusal 12's example in 01.
+pub other-bytes : (are (0 ∷ []) (decoded 65 1 (0 ∷ [])) && not (isChosen 65 (0 ∷ []) (0 ∷ []))) ≡ true
+unfolding bits number sum fixed numbers padded kindOf rest layers kindBits widthIn widest bestChunked chosen isChosen merged decodedLayers kindDecoded
+other-bytes = refl

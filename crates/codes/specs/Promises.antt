@@ -1,6 +1,7 @@
 -- What is shown of the level codes besides each function's contract. proofs/Promises proves each, as
--- `round-trip`, `lengths`, `best-choice`, `code-known`, `least-width`, `decode-fetches`, `decode-back` and `decoded-part`.
+-- `round-trip`, `lengths`, `best-choice`, `code-known`, `least-width`, `decode-fetches`, `decode-back`, `decoded-part` and `chosen-parts`.
 use mathlib.Core.Path.{_≡_}
+use mathlib.Core.Bool.{true}
 use mathlib.Core.List.{List, _++_, map}
 use Prim.Native.Nat.{ℕ, _+_, _*_, _^_, _≤_, _<_}
 use lib.ListN.{length, getD}
@@ -8,7 +9,7 @@ use Rattle.codes.specs.declared.kinds.Kind.{Kind}
 use Rattle.codes.specs.declared.kinds.Kind.the-variants.{Fixed, Chunked, Refused}
 use Rattle.codes.specs.Bits.{sum, bitsOf, bytesFor}
 use Rattle.codes.specs.Codes.{kindOf, part, Within, Holds}
-use Rattle.codes.specs.Choice.{widthIn, chunks, size, chosen}
+use Rattle.codes.specs.Choice.{widthIn, chunks, size, chosen, isChosen}
 use Rattle.codes.specs.Fetch.{value, fetched}
 use Rattle.codes.specs.Decode.{all, decoded}
 
@@ -63,3 +64,8 @@ DecodeBack = (code : ℕ) (vs : List ℕ) → Holds (kindOf code) vs → decoded
 abbrev pub DecodedPart : Type 0
 DecodedPart = (code n : ℕ) (bytes vs : List ℕ) → decoded code n bytes ≡ all vs → Within 8 bytes → length bytes ≡ bytesFor (size code vs)
     → ((j : ℕ) → size code vs ≤ j → getD (bitsOf bytes) j 0 ≡ 0) → part code vs ≡ bytes
+
+-- 9. The test whether bytes are what pack writes for the values tells it.
+pub record ChosenParts : Type 0 where
+  pub told : (code : ℕ) (vs bytes : List ℕ) → isChosen code vs bytes ≡ true → (chosen vs .code ≡ code) × (part code vs ≡ bytes)
+  pub back : (vs : List ℕ) → isChosen (chosen vs .code) vs (part (chosen vs .code) vs) ≡ true

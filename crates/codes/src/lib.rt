@@ -1,5 +1,6 @@
 // Level codes: the values of one level and the bytes of its part.
 mod choosing; // the code with fewest bits
+mod comparing; // whether a part is what pack writes
 mod decoding; // all values of a level at once
 mod encoding; // a level's part, written
 mod fetching; // one value, from the part alone
@@ -11,6 +12,7 @@ mod writing; // bits into a buffer, one after the other
 
 pub use choosing::Choice;
 pub use choosing::choose;
+pub use comparing::is_chosen;
 pub use decoding::decode;
 pub use encoding::copy_values;
 pub use encoding::encode;

@@ -12,7 +12,7 @@ fn wide_byte(x: u8) -> u32
 }
 
 // Byte `i`.
-fn byte(part: &[u8], i: usize) -> u64
+pub(crate) fn byte(part: &[u8], i: usize) -> u64
     requires { ⌜ i < length (now part) ⌝ }
     ensures { λ r. ⌜ (r < 256) × (r ≡ getD (now (part .entry)) i 0) ⌝ }
 {
