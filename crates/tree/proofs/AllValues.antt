@@ -21,7 +21,7 @@ abbrev pub KnownBefore : Levels → List ℕ → ℕ → List ℕ → Type 0
 KnownBefore levels s first values = (v : ℕ) → 1 ≤ v → v < first → v ≤ length values → fetchedAt levels s v ≡ value (getD values (v - 1) 0)
 
 -- what a level that is decoded leaves in its entries
-all-of : (n : ℕ) (x : Decoded) → isDecoded x ≡ true → x ≡ all (decodedOr0 n x)
+pub all-of : (n : ℕ) (x : Decoded) → isDecoded x ≡ true → x ≡ all (decodedOr0 n x)
 all-of n (all vs) e = refl
 all-of n undecoded e = absurd (false≢true e)
 
@@ -34,6 +34,11 @@ getD-part : (a k j : ℕ) (xs ys : List ℕ) → a ≤ length xs → j < length 
 getD-part a k j xs ys h l =
     ap (λ (m : ℕ). getD (putMid a k xs ys) (m + j) 0) (sym (length-take-le a xs h))
     ∙ getD-append-add (take a xs) (ys ++ postOf a k xs) j 0 ∙ List·getD-append ys (postOf a k xs) 0 j l
+
+-- the values of the level below d others
+pub level-count : (values : List ℕ) (d first last : ℕ) → first ≡ 2 ^ d → first ≤ length values → last ≡ min (length values) (2 * first - 1)
+    → length (midOf (first - 1) (last - (first - 1)) values) ≡ min (length values + 1 - 2 ^ d) (2 ^ d)
+level-count values d first last e room l = mid-len (first - 1) last values (omega arith) ∙ omega (arith, pow-pos d)
 
 -- the level below d others, from node `first` to node `last`
 pub known-next : (levels : Levels) (s values part : List ℕ) (d first last count : ℕ) → levels .pins ≡ length values → first ≡ 2 ^ d → first ≤ length values

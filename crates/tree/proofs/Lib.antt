@@ -11,12 +11,12 @@ pub mod Inorder
 pub mod LevelMerges
 pub mod LevelRanks
 pub mod LevelValues
+pub mod LevelsChosen
 pub mod Listings
 pub mod NodeFetches
 pub mod NodeTimes
 pub mod Orders
 pub mod Paths
-pub mod Placings
 pub mod Promises
 pub mod Ranks
 pub mod Remembering

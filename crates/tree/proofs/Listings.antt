@@ -15,6 +15,7 @@ use Rattle.tree.specs.Walks.{Answer, found, stopped, toward, accessAnswe
 use Rattle.tree.specs.Buffers.{replaced}
 use Rattle.tree.specs.Listing.{Stop, nowhere, at as stop-at, accesses, timeThen, timesFrom, stopOr, stopFrom, endOf}
 use Rattle.tree.specs.Standing.{Stands, Reaches}
+use Rattle.tree.specs.Merged.{KnownRanks}
 use Rattle.tree.proofs.Buffers.{replaced-around}
 use Rattle.tree.proofs.Paths.{access-answer}
 use Rattle.tree.proofs.Steps.{stands-place, stands-rank, stands-node, stands-child, access-end, access-refused, access-step}
@@ -103,6 +104,12 @@ times-known levels s xs pins fine =
     subst (λ (k : ℕ). (timesFrom (accesses levels s) k 0 ≡ xs) × (stopFrom (accesses levels s) k 0 ≡ nowhere)) (sym pins)
     (times-found (accesses levels s) xs 0 (λ j. length (toward (length xs) j)) (λ j h.
     rw (zero-add j) (ap (λ (n : ℕ). accessAnswer n (timesIn levels s) j) pins ∙ access-answer xs (timesIn levels s) fine j h)))
+
+-- where they stand at their ranks
+pub ranks-known : (levels : Levels) (s list : List ℕ) → levels .pins ≡ length list → KnownRanks levels s (levels .pins) list
+    → (timesFrom (accesses levels s) (levels .pins) 0 ≡ list) × (stopFrom (accesses levels s) (levels .pins) 0 ≡ nowhere)
+unfolding timeOf
+ranks-known levels s list pins known = times-known levels s list pins (λ v a b. rw (← pins) (known v a (rw pins b)))
 
 -- ---- at a node
 

@@ -13,7 +13,7 @@ use Rattle.tree.specs.Levels.{countOf, partOf, fetchedAt, Fits}
 use Rattle.tree.proofs.Heights.{height-is, height-above, height-bound}
 
 -- how many nodes the level below d others has
-count-is : (n d : ℕ) → countOf n (suc d) ≡ min (n + 1 - 2 ^ d) (2 ^ d)
+pub count-is : (n d : ℕ) → countOf n (suc d) ≡ min (n + 1 - 2 ^ d) (2 ^ d)
 count-is n d =
     let e : suc d - 1 ≡ d = omega arith in
     rw (e, pow-succ' 2 d) (omega (arith, pow-pos d))

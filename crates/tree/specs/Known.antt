@@ -1,12 +1,10 @@
 -- Values and times of nodes that are known at once, in node order: entry v - 1 is node v's.
 use mathlib.Core.Path.{_≡_}
-use mathlib.Core.Logic.{_⊎_}
 use mathlib.Core.List.{List}
-use Prim.Native.Nat.{ℕ, _+_, _-_, _≤_, _<_}
+use Prim.Native.Nat.{ℕ, _-_, _≤_}
 use lib.ListN.{length, getD, set}
 use Rattle.codes.specs.Fetch.{value}
 use Rattle.tree.specs.declared.nodes.Levels.{Levels}
-use Rattle.tree.specs.Shape.{rank}
 use Rattle.tree.specs.Levels.{fetchedAt}
 use Rattle.tree.specs.Times.{at, under, timesIn}
 
@@ -25,9 +23,3 @@ NodeTimed v above before after = (t : ℕ) × (at t ≡ under v (at above) (valu
 -- each entry has become its node's time
 abbrev pub AllTimed : List ℕ → List ℕ → Type 0
 AllTimed before after = (levels : Levels) (s : List ℕ) → KnownValues levels s before → KnownTimes levels s after
-
--- the stretch of `pins` from `start` on has the times of its nodes at their ranks, and nothing else has changed
-pub record Placed (times : List ℕ) (start pins : ℕ) (before after : List ℕ) : Type 0 where
-  pub done : (v : ℕ) → 1 ≤ v → v ≤ length times → start ≤ rank (length times) v → rank (length times) v < start + pins
-      → getD after (rank (length times) v) 0 ≡ getD times (v - 1) 0
-  pub others : (i : ℕ) → (i < start) ⊎ (start + pins ≤ i) → getD after i 0 ≡ getD before i 0

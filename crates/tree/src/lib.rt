@@ -6,13 +6,15 @@ mod nodes; // where the levels stand in a strip; one node's stored value and tim
 mod shape; // height, root place, stretches and ranks
 mod sweeping; // sweep
 mod targets; // one target, from a node down
-mod timing; // the times of all nodes, in node order
+mod timing; // what all nodes store, and their times, in node order
 mod walking; // access and search
 
 pub use building::construct;
 pub use building::level_values;
 pub use listing::Listed;
+pub use listing::Listing;
 pub use listing::list;
+pub use listing::list_compared;
 pub use nodes::GREATEST;
 pub use nodes::Levels;
 pub use nodes::Refusal;

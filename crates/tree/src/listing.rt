@@ -1,18 +1,22 @@
 // Listing: the times at all positions, in order.
+use super::merging::merge_levels;
 use super::nodes::Levels;
 use super::nodes::Opened;
 use super::nodes::Refusal;
 use super::nodes::open_at;
 use super::shape::root_place;
-use super::timing::known_times;
+use super::timing::Decoding;
+use super::timing::decode_levels;
 ghost use mathlib.Core.Path.{_≡_};
-ghost use Prim.Native.Nat.{_+_, _≤_};
+ghost use mathlib.Core.Bool.{true, _&&_};
+ghost use Prim.Native.Nat.{_≤_};
 ghost use lib.ListN.{length};
 ghost use Rattle.tree.specs.Levels.{Fits};
 ghost use Rattle.tree.specs.Buffers.{replaced};
 ghost use Rattle.tree.specs.Listing.{accesses, timesFrom, stopFrom, listed};
-ghost use Rattle.tree.specs.Standing.{StretchIs, Stands, Reaches};
-ghost use Rattle.tree.specs.Known.{Placed};
+ghost use Rattle.tree.specs.Standing.{Stands, Reaches};
+ghost use Rattle.tree.specs.Chosen.{allChosen};
+ghost use Rattle.tree.specs.Merged.{KnownRanks};
 
 // Whether every position has a time.
 pub enum Listed {
@@ -75,86 +79,104 @@ fn list_under(
     )
 }
 
-// As `place_under`, for a stretch of no more than three pins. With two or more of them the node has a left child, with three a right
-// one, and these have no children.
-fn place_few(times: &mut [u32], known: &[u32], start: usize, pins: usize, v: usize)
-    requires { ⌜ (1 ≤ v) × (length (now known) ≤ length (now times)) × (pins ≤ 3) ⌝ }
-    requires { ⌜ StretchIs (length (now known)) v start pins × (start + pins ≤ length (now known)) ⌝ }
-    ensures { λ r. ⌜ Placed (now (known .entry)) start pins (now (times .entry)) (now (times .exit)) ⌝ }
+// A listing, and whether the levels are what pack writes for the values that they are decoded to, where that is compared.
+pub struct Listing {
+    pub listed: Listed,
+    pub chosen: bool,
+}
+
+// Makes the list of all times from the levels, where all are decoded and no time is below 0 or above 4,294,967,295.
+fn list_levels(
+    list: &mut [u32],
+    values: &mut [u32],
+    s: &[u8],
+    levels: Levels,
+    compare: bool,
+) -> Decoding
+    requires { ⌜ Fits levels (now s) × (levels .pins ≡ length (now values)) × (levels .pins ≡ length (now list)) ⌝ }
+    ensures { λ r. ⌜ (r .decoded ≡ true → KnownRanks levels (now (s .entry)) (levels .pins) (now (list .exit))) ⌝ }
+    ensures { λ r. ⌜ r .chosen ≡ compare && allChosen levels (now (s .entry)) ⌝ }
 {
-    if pins == 0 {
-        return;
+    let decoding = decode_levels(values, s, levels, compare);
+    if !decoding.decoded {
+        return decoding;
     }
-    if pins == 1 {
-        times[start] = known[v - 1];
-        return;
-    }
-    times[start + 1] = known[v - 1];
-    times[start] = known[2 * v - 1];
-    if pins == 3 {
-        times[start + 2] = known[2 * v];
+    Decoding {
+        decoded: merge_levels(list, values),
+        chosen: decoding.chosen,
     }
 }
 
-// Puts the times of the stretch of `pins` from `start` on, under node v, at their positions. They are known in node order. The sides of
-// seven pins have no more than three each, which saves most calls.
-fn place_under(times: &mut [u32], known: &[u32], start: usize, pins: usize, v: usize)
-    requires { ⌜ (1 ≤ v) × (length (now known) ≤ length (now times)) ⌝ }
-    requires { ⌜ StretchIs (length (now known)) v start pins × (start + pins ≤ length (now known)) ⌝ }
-    ensures { λ r. ⌜ Placed (now (known .entry)) start pins (now (times .entry)) (now (times .exit)) ⌝ }
-{
-    if pins <= 3 {
-        place_few(times, known, start, pins, v);
-        return;
-    }
-    let place = root_place(pins);
-    let at = start + place - 1;
-    times[at] = known[v - 1];
-    if pins <= 7 {
-        place_few(times, known, start, place - 1, 2 * v);
-        place_few(times, known, start + place, pins - place, 2 * v + 1);
-        return;
-    }
-    place_under(times, known, start, place - 1, 2 * v);
-    place_under(times, known, start + place, pins - place, 2 * v + 1);
-}
-
-// As `list`, with room for the times in node order. Where these are not known at once, the nodes are opened one by one.
-fn list_in(times: &mut [u32], known: &mut [u32], s: &[u8], levels: Levels) -> Listed
+// As `list_by`, with room for what the nodes store and for a list that may fail. Where all levels are decoded and no time is below 0 or above the
+// greatest, they are listed level by level; else the nodes are opened one by one.
+fn list_in(
+    times: &mut [u32],
+    values: &mut [u32],
+    list: &mut [u32],
+    s: &[u8],
+    levels: Levels,
+    compare: bool,
+) -> Listing
     requires { ⌜ Fits levels (now s) ⌝ }
-    requires { ⌜ (levels .pins ≤ length (now times)) × (levels .pins ≡ length (now known)) ⌝ }
-    ensures { λ r. ⌜ listed r ≡ stopFrom (accesses levels (now (s .entry))) (levels .pins) 0 ⌝ }
+    requires { ⌜ (levels .pins ≤ length (now times)) × (levels .pins ≡ length (now values)) × (levels .pins ≡ length (now list)) ⌝ }
+    ensures { λ r. ⌜ listed (r .listed) ≡ stopFrom (accesses levels (now (s .entry))) (levels .pins) 0 ⌝ }
+    ensures { λ r. ⌜ r .chosen ≡ compare && allChosen levels (now (s .entry)) ⌝ }
     ensures { λ r. ⌜ now (times .exit) ≡ replaced (now (times .entry)) 0 (timesFrom (accesses levels (now (s .entry))) (levels .pins) 0) ⌝ }
 {
-    if known_times(known, s, levels) {
-        place_under(times, known, 0, known.len(), 1);
-        return Listed::All;
+    let decoding = list_levels(list, values, s, levels, compare);
+    if decoding.decoded {
+        codes::copy_values(times, list);
+        return Listing {
+            listed: Listed::All,
+            chosen: decoding.chosen,
+        };
     }
-    list_under(times, s, levels, 0, levels.pins, 1, 0, 0)
+    Listing {
+        listed: list_under(times, s, levels, 0, levels.pins, 1, 0, 0),
+        chosen: decoding.chosen,
+    }
 }
 
-// As `list`, for at most 1,023 pins, so that a short list need not clear room for the longest one.
-fn list_short(times: &mut [u32], s: &[u8], levels: Levels) -> Listed
+// As `list_by`, for at most 1,023 pins, so that a short list need not clear room for the longest one.
+fn list_short(times: &mut [u32], s: &[u8], levels: Levels, compare: bool) -> Listing
     requires { ⌜ Fits levels (now s) × (levels .pins ≤ 1023) ⌝ }
     requires { ⌜ levels .pins ≤ length (now times) ⌝ }
-    ensures { λ r. ⌜ listed r ≡ stopFrom (accesses levels (now (s .entry))) (levels .pins) 0 ⌝ }
+    ensures { λ r. ⌜ listed (r .listed) ≡ stopFrom (accesses levels (now (s .entry))) (levels .pins) 0 ⌝ }
+    ensures { λ r. ⌜ r .chosen ≡ compare && allChosen levels (now (s .entry)) ⌝ }
     ensures { λ r. ⌜ now (times .exit) ≡ replaced (now (times .entry)) 0 (timesFrom (accesses levels (now (s .entry))) (levels .pins) 0) ⌝ }
 {
-    let mut known = [0u32; 1023];
+    let mut values = [0u32; 1023];
+    let mut list = [0u32; 1023];
     let n = levels.pins;
-    list_in(times, &mut known[..n], s, levels)
+    list_in(times, &mut values[..n], &mut list[..n], s, levels, compare)
 }
 
-// As `list`, for any number of pins that 16 levels have.
-fn list_long(times: &mut [u32], s: &[u8], levels: Levels) -> Listed
+// As `list_by`, for any number of pins that 16 levels have.
+fn list_long(times: &mut [u32], s: &[u8], levels: Levels, compare: bool) -> Listing
     requires { ⌜ Fits levels (now s) ⌝ }
     requires { ⌜ levels .pins ≤ length (now times) ⌝ }
-    ensures { λ r. ⌜ listed r ≡ stopFrom (accesses levels (now (s .entry))) (levels .pins) 0 ⌝ }
+    ensures { λ r. ⌜ listed (r .listed) ≡ stopFrom (accesses levels (now (s .entry))) (levels .pins) 0 ⌝ }
+    ensures { λ r. ⌜ r .chosen ≡ compare && allChosen levels (now (s .entry)) ⌝ }
     ensures { λ r. ⌜ now (times .exit) ≡ replaced (now (times .entry)) 0 (timesFrom (accesses levels (now (s .entry))) (levels .pins) 0) ⌝ }
 {
-    let mut known = [0u32; 65535];
+    let mut values = [0u32; 65535];
+    let mut list = [0u32; 65535];
     let n = levels.pins;
-    list_in(times, &mut known[..n], s, levels)
+    list_in(times, &mut values[..n], &mut list[..n], s, levels, compare)
+}
+
+// Lists, and compares the levels with what pack writes where that is asked.
+fn list_by(times: &mut [u32], s: &[u8], levels: Levels, compare: bool) -> Listing
+    requires { ⌜ Fits levels (now s) ⌝ }
+    requires { ⌜ levels .pins ≤ length (now times) ⌝ }
+    ensures { λ r. ⌜ listed (r .listed) ≡ stopFrom (accesses levels (now (s .entry))) (levels .pins) 0 ⌝ }
+    ensures { λ r. ⌜ r .chosen ≡ compare && allChosen levels (now (s .entry)) ⌝ }
+    ensures { λ r. ⌜ now (times .exit) ≡ replaced (now (times .entry)) 0 (timesFrom (accesses levels (now (s .entry))) (levels .pins) 0) ⌝ }
+{
+    if levels.pins <= 1023 {
+        return list_short(times, s, levels, compare);
+    }
+    list_long(times, s, levels, compare)
 }
 
 // Writes the times at the positions from 0 on to the front of `times`, up to the first at which access is refused.
@@ -164,8 +186,17 @@ pub fn list(times: &mut [u32], s: &[u8], levels: Levels) -> Listed
     ensures { λ r. ⌜ listed r ≡ stopFrom (accesses levels (now (s .entry))) (levels .pins) 0 ⌝ }
     ensures { λ r. ⌜ now (times .exit) ≡ replaced (now (times .entry)) 0 (timesFrom (accesses levels (now (s .entry))) (levels .pins) 0) ⌝ }
 {
-    if levels.pins <= 1023 {
-        return list_short(times, s, levels);
-    }
-    list_long(times, s, levels)
+    let listing = list_by(times, s, levels, false);
+    listing.listed
+}
+
+// As `list`, and says whether the levels are what pack writes for the values that they are decoded to.
+pub fn list_compared(times: &mut [u32], s: &[u8], levels: Levels) -> Listing
+    requires { ⌜ Fits levels (now s) ⌝ }
+    requires { ⌜ levels .pins ≤ length (now times) ⌝ }
+    ensures { λ r. ⌜ listed (r .listed) ≡ stopFrom (accesses levels (now (s .entry))) (levels .pins) 0 ⌝ }
+    ensures { λ r. ⌜ r .chosen ≡ allChosen levels (now (s .entry)) ⌝ }
+    ensures { λ r. ⌜ now (times .exit) ≡ replaced (now (times .entry)) 0 (timesFrom (accesses levels (now (s .entry))) (levels .pins) 0) ⌝ }
+{
+    list_by(times, s, levels, true)
 }

@@ -6,21 +6,31 @@ use Rattle.tree.proofs.NodeFetches.{pins-bound}
 use borrow.Author.Needs.{needs}
 use Rattle.tree.proofs.listing.list_long.Statement.{statement}
 use Rattle.tree.proofs.listing.list_long.Tie as tie
+use Rattle.tree.proofs.listing.list_long.Reads as reads
+use Rattle.tree.proofs.listing.list_long.Lts as lts
+use Rattle.tree.proofs.listing.list_in.Reads as list-in-reads
 
 -- 16 levels have no more pins
 few : (c : tie.Start) → c .args .levels .pins ≤ 65535
 few c = omega (arith, pins-bound (c .args .levels) (c .args .s .now) (c .pre .0))
 
-array-borrow-prefix-known : tie.Need-array-borrow-prefix-known
-array-borrow-prefix-known c = new-room 65535 (c .before .before .before .args .levels .pins) (few (c .before .before .before))
+array-borrow-prefix-values : tie.Need-array-borrow-prefix-values
+array-borrow-prefix-values c = new-room 65535 (c .before .before .before .args .levels .pins) (few (c .before .before .before))
 
 slice-aggregate-list-in : tie.Need-slice-aggregate-list-in
 slice-aggregate-list-in c = new-front 65535 (c .before .before .before .before .args .levels .pins) (few (c .before .before .before .before))
 
+array-borrow-prefix-list : tie.Need-array-borrow-prefix-list
+array-borrow-prefix-list c = new-room 65535 (c .before .before .before .before .args .levels .pins) (few (c .before .before .before .before))
+
+slice-aggregate-list-in-2 : tie.Need-slice-aggregate-list-in-2
+slice-aggregate-list-in-2 c = new-front 65535 (c .before .before .before .before .before .args .levels .pins) (few (c .before .before .before .before .before))
+
 list-in-requires : tie.Need-list-in-requires
 list-in-requires c κs =
-    let p = c .before .before .before .before .pre in
-    (p .0, (p .1, new-front 65535 (c .before .before .before .before .args .levels .pins) (few (c .before .before .before .before))))
+    let p = c .before .before .before .before .before .pre in
+    let front = new-front 65535 (c .before .before .before .before .before .args .levels .pins) (few (c .before .before .before .before .before)) in
+    (p .0, (p .1, front, front))
 
 same-length : tie.Need-same-length
 same-length c = search needs
@@ -32,8 +42,10 @@ pub list-long-spec : {M : Type 1} → statement M
 list-long-spec =
     tie.close
     (tie.spec
-    array-borrow-prefix-known
+    array-borrow-prefix-values
     slice-aggregate-list-in
+    array-borrow-prefix-list
+    slice-aggregate-list-in-2
     list-in-requires
     same-length
     returns)

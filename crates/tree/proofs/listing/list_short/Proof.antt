@@ -4,17 +4,27 @@ use Rattle.tree.proofs.Buffers.{new-front}
 use borrow.Author.Needs.{needs}
 use Rattle.tree.proofs.listing.list_short.Statement.{statement}
 use Rattle.tree.proofs.listing.list_short.Tie as tie
+use Rattle.tree.proofs.listing.list_short.Reads as reads
+use Rattle.tree.proofs.listing.list_short.Lts as lts
+use Rattle.tree.proofs.listing.list_in.Reads as list-in-reads
 
-array-borrow-prefix-known : tie.Need-array-borrow-prefix-known
-array-borrow-prefix-known c = search needs
+array-borrow-prefix-values : tie.Need-array-borrow-prefix-values
+array-borrow-prefix-values c = search needs
 
 slice-aggregate-list-in : tie.Need-slice-aggregate-list-in
 slice-aggregate-list-in c = new-front 1023 (c .before .before .before .before .args .levels .pins) (omega arith)
 
+array-borrow-prefix-list : tie.Need-array-borrow-prefix-list
+array-borrow-prefix-list c = search needs
+
+slice-aggregate-list-in-2 : tie.Need-slice-aggregate-list-in-2
+slice-aggregate-list-in-2 c = new-front 1023 (c .before .before .before .before .before .args .levels .pins) (omega arith)
+
 list-in-requires : tie.Need-list-in-requires
 list-in-requires c κs =
-    let p = c .before .before .before .before .pre in
-    (p .0 .0, (p .1, new-front 1023 (c .before .before .before .before .args .levels .pins) (omega arith)))
+    let p = c .before .before .before .before .before .pre in
+    let front = new-front 1023 (c .before .before .before .before .before .args .levels .pins) (omega arith) in
+    (p .0 .0, (p .1, front, front))
 
 same-length : tie.Need-same-length
 same-length c = search needs
@@ -26,8 +36,10 @@ pub list-short-spec : {M : Type 1} → statement M
 list-short-spec =
     tie.close
     (tie.spec
-    array-borrow-prefix-known
+    array-borrow-prefix-values
     slice-aggregate-list-in
+    array-borrow-prefix-list
+    slice-aggregate-list-in-2
     list-in-requires
     same-length
     returns)

@@ -35,9 +35,14 @@ loop-holds c =
     let a = c .before .before .before .before .args in
     let x = getD (a .values .now) 0 0 in
     let some : 1 ≤ length (a .values .now) = omega arith in
-    let room : 1 ≤ length (a .times .now) = omega arith in
-    (refl, some, omega arith, omega arith, rw length-set (omega arith),
-    grown-root (a .values .now) (set (a .times .now) 0 x) some (getD-set-same (a .times .now) 0 x 0 room) (c .shared-slice-known2 .given 0 .fits))
+    let room : 1 ≤ length (a .times .now) = omega arith in (
+      refl,
+      some,
+      omega arith,
+      omega arith,
+      rw length-set (omega arith),
+      grown-root (a .values .now) (set (a .times .now) 0 x) some (getD-set-same (a .times .now) 0 x 0 room) (c .shared-slice-known2 .given 0 .fits),
+    )
 
 mul-least : tie.Need-mul-least Inv-loop μ-loop
 mul-least c = omega arith
@@ -94,9 +99,14 @@ loop-less c = less (length (c .before .before .before .before .before .before .b
 loop-again : tie.Need-loop-again Inv-loop μ-loop
 loop-again c =
     let l = c .before .before .before .before .before .before .before .before .loop in
-    let x = c .before .before .before .merge-level in
-    (refl, l .inv .1, omega arith, l .inv .3, rw (x .kept .0) (l .inv .4),
-    grown-next _ _ (l .first) (l .times) (l .inv .5) _ (x .last .0) (c .before .before .before .before .before .before .least .result) (omega arith) (c .before .before .before .before .before .before .least .ensures) refl (x .ensures (not-false (x .result) (c .if2 .left))))
+    let x = c .before .before .before .merge-level in (
+      refl,
+      l .inv .1,
+      omega arith,
+      l .inv .3,
+      rw (x .kept .0) (l .inv .4),
+      grown-next _ _ (l .first) (l .times) (l .inv .5) _ (x .last .0) (c .before .before .before .before .before .before .least .result) (omega arith) (c .before .before .before .before .before .before .least .ensures) refl (x .ensures (not-false (x .result) (c .if2 .left))),
+    )
 
 same-length-2 : tie.Need-same-length-2 Inv-loop μ-loop
 same-length-2 c = c .before .loop .inv .5 .kept ∙ simp length-set

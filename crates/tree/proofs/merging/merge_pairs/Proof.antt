@@ -40,9 +40,13 @@ loop-again : tie.Need-loop-again Inv-loop μ-loop
 loop-again c =
     let l = c .before .before .before .before .before .before .loop in
     let x = c .before .before .before .merge-pair in
-    let e : 2 * (l .q - 1) + 2 ≡ 2 * l .q = omega arith in
-    (omega arith, omega arith, x .kept .0 ∙ l .inv .2, λ before above odd full room w.
-    x .ensures (not-false (x .result) (c .if1 .left)) before above odd full room (rw e (l .inv .3 before above odd full room w)))
+    let e : 2 * (l .q - 1) + 2 ≡ 2 * l .q = omega arith in (
+      omega arith,
+      omega arith,
+      x .kept .0 ∙ l .inv .2,
+      λ before above odd full room w.
+          x .ensures (not-false (x .result) (c .if1 .left)) before above odd full room (rw e (l .inv .3 before above odd full room w)),
+    )
 
 same-length-2 : tie.Need-same-length-2 Inv-loop μ-loop
 same-length-2 c = c .before .loop .inv .2

@@ -1,8 +1,13 @@
 -- `known_times` meets its contract.
+use native.Mathlib.Omega.{arith}
 use mathlib.Core.Bool.{false≢true}
 use borrow.Author.Needs.{needs}
 use Rattle.tree.proofs.timing.known_times.Statement.{statement}
 use Rattle.tree.proofs.timing.known_times.Tie as tie
+use Rattle.tree.proofs.timing.known_times.Reads as reads
+use Rattle.tree.proofs.timing.known_times.Lts as lts
+use Rattle.tree.proofs.timing.decode_levels.Reads as decode-levels-reads
+use Rattle.tree.proofs.timing.time_nodes.Reads as time-nodes-reads
 
 decode-levels-requires : tie.Need-decode-levels-requires
 decode-levels-requires c κs = search needs
@@ -14,8 +19,7 @@ same-length : tie.Need-same-length
 same-length c = search needs
 
 returns : tie.Need-returns
-returns c e =
-    c .before .before .time-nodes .ensures e _ _ (c .before .before .before .before .before .before .before .decode-levels .ensures (c .before .before .before .before .if1 .taken))
+returns c e = c .before .before .time-nodes .ensures e _ _ (c .before .before .before .before .before .before .before .decode-levels .ensures .0 (c .before .before .before .before .if1 .taken))
 
 same-length-2 : tie.Need-same-length-2
 same-length-2 c = search needs
