@@ -1,8 +1,8 @@
 -- Bits of a part, read by bytes and counted by words.
-use mathlib.Core.Path.{_≡_, refl, _∙_}
+use mathlib.Core.Path.{_≡_, refl, sym, _∙_}
 use mathlib.Core.List.{List, [], _∷_, append-nil}
 use Prim.Native.Nat.{ℕ, zero, suc, _+_, _-_, _*_, _/_, _%_, _^_, _≤_, _<_, min}
-use native.Mathlib.Nat.{min-eq-left, min-eq-right, div-one}
+use native.Mathlib.Nat.{min-eq-left, min-eq-right, mod-eq-of-lt, div-one}
 use native.Mathlib.Numerals.{add-one}
 use native.Mathlib.Decide.{decLe}
 use native.Mathlib.Omega.{arith}
@@ -10,7 +10,7 @@ use lib.ListN.{length, take, drop, getD, length-drop}
 use lib.Seq.{take-all, take-take, take-add, drop-drop, length-take-le}
 use lib.Arith.{digits-lt}
 use lib.Count.{ones, ones-cat}
-use lib.Pow.{pow-add, low, high}
+use lib.Pow.{pow-add, low, high, field, mod-mod-pow}
 use Rattle.codes.specs.Bits.{number, sum, bitsOf, bytesFor}
 use Rattle.codes.specs.Codes.{Within}
 use Rattle.codes.proofs.Bits.{within-take, within-drop, bits-fixed, length-fixed, fixed-fetch, number-append, number-lt, number-part, number-take-lt, sum-take-add, sum-le}
@@ -65,6 +65,23 @@ last-number bytes at j w h =
     let e : suc j * w ≡ j * w + w = omega arith in
     let l = part-lt bytes (at + j * w) w in
     rw (e, number-more bytes at (j * w) w h) (low (number (take (j * w) (from bytes at))) w l, high (number (take (j * w) (from bytes at))) w l)
+
+-- the last two numbers of w bits that x has
+pub last-two : (bytes : List ℕ) (at w x : ℕ) → at + 2 * w ≤ length bytes * 8 → x % 2 ^ (2 * w) ≡ number (take (2 * w) (from bytes at))
+    → (x / 2 ^ w % 2 ^ w ≡ number (take w (from bytes at))) × (x % 2 ^ w ≡ number (take w (from bytes (at + w))))
+last-two bytes at w x h e =
+    let d : 2 * w ≡ w + w = omega arith in
+    let one : 1 * w ≡ w = omega arith in
+    let l = rw one at (last-number bytes at 1 w (omega arith)) in
+    let y = rw d at e in
+    (sym (field x w w) ∙ rw (y, ← d) (l .1), sym (mod-mod-pow x w w) ∙ rw (y, ← d) (l .0))
+
+-- of four numbers of w bits the first two and the last two, each the last two that a number has
+pub two-twos : (bytes : List ℕ) (at w x : ℕ) → at + 4 * w ≤ length bytes * 8 → x ≡ number (take (4 * w) (from bytes at))
+    → (x / 2 ^ (2 * w) % 2 ^ (2 * w) ≡ number (take (2 * w) (from bytes at))) × (x % 2 ^ (2 * w) ≡ number (take (2 * w) (from bytes (at + 2 * w))))
+two-twos bytes at w x h e =
+    let d : 4 * w ≡ 2 * (2 * w) = omega arith in
+    last-two bytes at (2 * w) x (omega arith) (rw (e, d) (mod-eq-of-lt (part-lt bytes at (2 * (2 * w)))))
 
 take-drop-take : (w s m : ℕ) (l : List ℕ) → s + w ≤ m → take w (drop s (take m l)) ≡ take w (drop s l)
 take-drop-take w zero m l h = take-take w m l (omega arith)

@@ -3,10 +3,22 @@
 use mathlib.Core.Path.{_≡_}
 use mathlib.Core.Bool.{Bool, true, false}
 use mathlib.Core.List.{List}
-use Prim.Native.Nat.{ℕ, _-_, _^_, _≤_, _<_}
+use Prim.Native.Nat.{ℕ, _-_, _*_, _^_, _≤_, _<_}
 use lib.ListN.{length, take, drop, getD}
-use Rattle.codes.specs.Bits.{sum, bitsOf}
+use Rattle.codes.specs.Bits.{number, sum, bitsOf}
 use Rattle.codes.specs.Decode.{Decoded, all, undecoded, merged}
+
+-- n values of width w lie in the part
+abbrev pub InPart : ℕ → ℕ → List ℕ → Type 0
+InPart w n bytes = (1 ≤ w) × (w ≤ 32) × (n < 2 ^ 32) × (length bytes < 2 ^ 32) × (n * w ≤ length bytes * 8)
+
+-- value q of them
+abbrev pub fixedValue : ℕ → List ℕ → ℕ → ℕ
+fixedValue w bytes q = number (take w (drop (q * w) (bitsOf bytes)))
+
+-- the first i are written
+abbrev pub FixedTo : ℕ → List ℕ → List ℕ → ℕ → Type 0
+FixedTo w bytes vs i = (q : ℕ) → q < i → getD vs q 0 ≡ fixedValue w bytes q
 
 -- the continuation bits of the layer of n values that begins at bit `at`, and all bits from its chunks on
 abbrev pub continuationsAt : List ℕ → ℕ → ℕ → List ℕ

@@ -11,16 +11,75 @@ use super::reading::read;
 use super::writing::wide_value;
 ghost use mathlib.Core.Path.{_≡_};
 ghost use mathlib.Core.List.{List};
-ghost use Prim.Native.Nat.{ℕ, _+_, _-_, _*_, _^_, _<_, _≤_};
+ghost use Prim.Native.Nat.{ℕ, _+_, _-_, _*_, _%_, _^_, _<_, _≤_};
 ghost use lib.ListN.{length, take, drop};
-ghost use Rattle.codes.specs.Bits.{sum, bitsOf};
+ghost use Rattle.codes.specs.Bits.{number, sum, bitsOf};
 ghost use Rattle.codes.specs.Radix.{IsRadix};
 ghost use Rattle.codes.specs.Decode.{merged, fromOne, decodedLayers, kindDecoded, decoded, isDecoded, decodedOr0};
-ghost use Rattle.codes.specs.Merging.{continuationsAt, chunksAt, Small, Merging, Says};
+ghost use Rattle.codes.specs.Merging.{InPart, FixedTo, continuationsAt, chunksAt, Small, Merging, Says};
 ghost use Rattle.codes.specs.declared.kinds.Kind.the-variants.{Fixed};
 
 // A value of 32 bits has at most 32 chunks.
 const LAYERS: usize = 32;
+
+// Writes two values of width `w` from value `i` on, the last two that `x` has.
+fn put_two(values: &mut [u32], w: usize, i: usize, x: u64)
+    requires { ⌜ (w ≤ 28) × (i + 2 ≤ length (now values)) ⌝ }
+    ensures { λ r. ⌜ ((bytes : List ℕ) → i * w + 2 * w ≤ length bytes * 8 → x % 2 ^ (2 * w) ≡ number (take (2 * w) (drop (i * w) (bitsOf bytes)))
+        → FixedTo w bytes (now (values .entry)) i → FixedTo w bytes (now (values .exit)) (i + 2)) ⌝ }
+{
+    values[i] = low_bits(x >> w, w) as u32;
+    values[i + 1] = low_bits(x, w) as u32;
+}
+
+// The values by fours, where one read has four: all but the last three at most. Gives how many are written.
+fn decode_fours(values: &mut [u32], part: &[u8], w: usize) -> usize
+    requires { ⌜ InPart w (length (now values)) (now part) ⌝ }
+    ensures { λ r. ⌜ (r ≤ length (now (values .entry))) × FixedTo w (now (part .entry)) (now (values .exit)) r ⌝ }
+{
+    let mut i: usize = 0;
+    if w > 14 {
+        return i;
+    }
+    let n = values.len();
+    while i + 4 <= n {
+        let x = read(part, i * w, 4 * w);
+        put_two(values, w, i, x >> (2 * w));
+        put_two(values, w, i + 2, x);
+        i += 4;
+    }
+    i
+}
+
+// Those from value `from` on by twos, where one read has two.
+fn decode_twos(values: &mut [u32], part: &[u8], w: usize, from: usize) -> usize
+    requires { ⌜ InPart w (length (now values)) (now part) × (from ≤ length (now values)) × FixedTo w (now part) (now values) from ⌝ }
+    ensures { λ r. ⌜ (r ≤ length (now (values .entry))) × FixedTo w (now (part .entry)) (now (values .exit)) r ⌝ }
+{
+    let mut i = from;
+    if w > 28 {
+        return i;
+    }
+    let n = values.len();
+    while i + 2 <= n {
+        put_two(values, w, i, read(part, i * w, 2 * w));
+        i += 2;
+    }
+    i
+}
+
+// Those from value `from` on, one by one.
+fn decode_ones(values: &mut [u32], part: &[u8], w: usize, from: usize)
+    requires { ⌜ InPart w (length (now values)) (now part) × (from ≤ length (now values)) × FixedTo w (now part) (now values) from ⌝ }
+    ensures { λ r. ⌜ FixedTo w (now (part .entry)) (now (values .exit)) (length (now (values .entry))) ⌝ }
+{
+    let n = values.len();
+    let mut i = from;
+    while i < n {
+        values[i] = read(part, i * w, w) as u32;
+        i += 1;
+    }
+}
 
 // The values of a fixed code of width `w`.
 fn decode_fixed(values: &mut [u32], part: &[u8], w: usize) -> bool
@@ -35,11 +94,9 @@ fn decode_fixed(values: &mut [u32], part: &[u8], w: usize) -> bool
         clear(values, n);
         return true;
     }
-    let mut i: usize = 0;
-    while i < n {
-        values[i] = read(part, i * w, w) as u32;
-        i += 1;
-    }
+    let fours = decode_fours(values, part, w);
+    let twos = decode_twos(values, part, w, fours);
+    decode_ones(values, part, w, twos);
     true
 }
 
