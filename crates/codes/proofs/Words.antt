@@ -2,7 +2,7 @@
 use mathlib.Core.Path.{_≡_, refl, sym, _∙_}
 use mathlib.Core.List.{List, [], _∷_, append-nil}
 use Prim.Native.Nat.{ℕ, zero, suc, _+_, _-_, _*_, _/_, _%_, _^_, _≤_, _<_, min}
-use native.Mathlib.Nat.{min-eq-left, min-eq-right, mod-eq-of-lt, div-one}
+use native.Mathlib.Nat.{min-eq-left, min-eq-right, div-one}
 use native.Mathlib.Numerals.{add-one}
 use native.Mathlib.Decide.{decLe}
 use native.Mathlib.Omega.{arith}
@@ -76,12 +76,12 @@ last-two bytes at w x h e =
     let y = rw d at e in
     (sym (field x w w) ∙ rw (y, ← d) (l .1), sym (mod-mod-pow x w w) ∙ rw (y, ← d) (l .0))
 
--- of four numbers of w bits the first two and the last two, each the last two that a number has
-pub two-twos : (bytes : List ℕ) (at w x : ℕ) → at + 4 * w ≤ length bytes * 8 → x ≡ number (take (4 * w) (from bytes at))
+-- of the last four the first two and the last two
+pub last-four : (bytes : List ℕ) (at w x : ℕ) → at + 4 * w ≤ length bytes * 8 → x % 2 ^ (4 * w) ≡ number (take (4 * w) (from bytes at))
     → (x / 2 ^ (2 * w) % 2 ^ (2 * w) ≡ number (take (2 * w) (from bytes at))) × (x % 2 ^ (2 * w) ≡ number (take (2 * w) (from bytes (at + 2 * w))))
-two-twos bytes at w x h e =
+last-four bytes at w x h e =
     let d : 4 * w ≡ 2 * (2 * w) = omega arith in
-    last-two bytes at (2 * w) x (omega arith) (rw (e, d) (mod-eq-of-lt (part-lt bytes at (2 * (2 * w)))))
+    last-two bytes at (2 * w) x (omega arith) (rw d at e)
 
 take-drop-take : (w s m : ℕ) (l : List ℕ) → s + w ≤ m → take w (drop s (take m l)) ≡ take w (drop s l)
 take-drop-take w zero m l h = take-take w m l (omega arith)

@@ -8,6 +8,7 @@ use super::reading::count_ones;
 use super::reading::least;
 use super::reading::low_bits;
 use super::reading::read;
+use super::reading::read_word;
 use super::writing::wide_value;
 ghost use mathlib.Core.Path.{_≡_};
 ghost use mathlib.Core.List.{List};
@@ -42,8 +43,9 @@ fn decode_fours(values: &mut [u32], part: &[u8], w: usize) -> usize
         return i;
     }
     let n = values.len();
-    while i + 4 <= n {
-        let x = read(part, i * w, 4 * w);
+    let stop = n - n % 4;
+    while i < stop {
+        let x = read_word(part, i * w, 4 * w);
         put_two(values, w, i, x >> (2 * w));
         put_two(values, w, i + 2, x);
         i += 4;
@@ -61,8 +63,9 @@ fn decode_twos(values: &mut [u32], part: &[u8], w: usize, from: usize) -> usize
         return i;
     }
     let n = values.len();
-    while i + 2 <= n {
-        put_two(values, w, i, read(part, i * w, 2 * w));
+    let stop = n - (n - from) % 2;
+    while i < stop {
+        put_two(values, w, i, read_word(part, i * w, 2 * w));
         i += 2;
     }
     i

@@ -67,18 +67,27 @@ fn word_at(part: &[u8], first: usize) -> u64
     four_bytes(part, first) as u64 * 4294967296 + four_bytes(part, first + 4) as u64
 }
 
-// The number that the `w` bits from bit `at` on spell. They lie in one word: near the end of the part in its last 8 bytes.
+// A number whose lowest bits are the `w` bits from bit `at` on. They lie in one word: near the end of the part in its last 8 bytes.
+pub(crate) fn read_word(part: &[u8], at: usize, w: usize) -> u64
+    requires { ⌜ (1 ≤ w) × (w < 64) × (at % 8 + w ≤ 64) ⌝ }
+    requires { ⌜ at + w ≤ length (now part) * 8 ⌝ }
+    ensures { λ r. ⌜ r % 2 ^ w ≡ number (take w (drop at (bitsOf (now (part .entry))))) ⌝ }
+{
+    let end = part.len();
+    if end < 8 {
+        return short_word(part) >> (end * 8 - at - w);
+    }
+    let first = least(at / 8, end - 8);
+    word_at(part, first) >> (64 - (at - first * 8) - w)
+}
+
+// The number that the `w` bits from bit `at` on spell.
 pub(crate) fn read(part: &[u8], at: usize, w: usize) -> u64
     requires { ⌜ (1 ≤ w) × (w < 64) × (at % 8 + w ≤ 64) ⌝ }
     requires { ⌜ at + w ≤ length (now part) * 8 ⌝ }
     ensures { λ r. ⌜ (r < 2 ^ w) × (r ≡ number (take w (drop at (bitsOf (now (part .entry)))))) ⌝ }
 {
-    let end = part.len();
-    if end < 8 {
-        return low_bits(short_word(part) >> (end * 8 - at - w), w);
-    }
-    let first = least(at / 8, end - 8);
-    low_bits(word_at(part, first) >> (64 - (at - first * 8) - w), w)
+    low_bits(read_word(part, at, w), w)
 }
 
 // How many of the `w` bits from bit `at` on are 1.

@@ -1,40 +1,41 @@
 -- `decode_fours` meets its contract.
 use native.Mathlib.Omega.{arith}
-use Prim.Native.Nat.{_+_, _-_, _*_, _≤_}
 use mathlib.Core.Path.{_≡_, refl}
+use Prim.Native.Nat.{_+_, _-_, _*_, _%_, _≤_}
 use native.Mathlib.Nat.{mul-le-mul-right}
 use lib.ListN.{length}
 use Rattle.codes.specs.Merging.{FixedTo}
-use Rattle.codes.proofs.Words.{two-twos}
+use Rattle.codes.proofs.Words.{last-four}
 use Rattle.codes.proofs.decoding.decode_fours.Statement.{statement}
 use Rattle.codes.proofs.decoding.decode_fours.Tie as tie
 
 abbrev Inv-loop : tie.InvT-loop
-Inv-loop values₀ part w i₀ n values i = (i ≤ n) × (length values ≡ n) × FixedTo w part values i
+Inv-loop values₀ part w i₀ n stop values i =
+    (i ≤ stop) × (i % 4 ≡ 0) × (stop % 4 ≡ 0) × (stop ≤ n) × (length values ≡ n) × FixedTo w part values i
 
 abbrev μ-loop : tie.MeasureT-loop
-μ-loop values₀ part w i₀ n values i = n - i
+μ-loop values₀ part w i₀ n stop values i = stop - i
 
 returns : tie.Need-returns Inv-loop μ-loop
 returns c = (omega arith, λ q h. absurd (omega arith))
 
+sub-stop : tie.Need-sub-stop Inv-loop μ-loop
+sub-stop c = omega arith
+
 loop-holds : tie.Need-loop-holds Inv-loop μ-loop
-loop-holds c = (omega arith, refl, λ q h. absurd (omega arith))
+loop-holds c = (omega arith, omega arith, omega arith, omega arith, refl, λ q h. absurd (omega arith))
 
-add-loop : tie.Need-add-loop Inv-loop μ-loop
-add-loop c = omega arith
-
-mul-read : tie.Need-mul-read Inv-loop μ-loop
-mul-read c =
+mul-read-word : tie.Need-mul-read-word Inv-loop μ-loop
+mul-read-word c =
     let a = c .before .before .before .before .before .args in
     let t : c .before .loop .i ≤ length (a .values .now) = omega arith in
     omega (arith, mul-le-mul-right (a .w) t)
 
-mul-read-2 : tie.Need-mul-read-2 Inv-loop μ-loop
-mul-read-2 c = omega arith
+mul-read-word-2 : tie.Need-mul-read-word-2 Inv-loop μ-loop
+mul-read-word-2 c = omega arith
 
-read-requires : tie.Need-read-requires Inv-loop μ-loop
-read-requires c κs =
+read-word-requires : tie.Need-read-word-requires Inv-loop μ-loop
+read-word-requires c κs =
     let a = c .before .before .before .before .before .args in
     let t : c .before .loop .i + 4 ≤ length (a .values .now) = omega arith in
     omega (arith, mul-le-mul-right (a .w) t)
@@ -66,18 +67,19 @@ loop-again c =
     let l = c .before .before .before .before .before .before .before .before .before .before .loop in
     let one = c .before .before .before .before .before .before .put-two .ensures in
     let two = c .before .before .put-two2 .ensures in
-    let r = c .before .before .before .before .before .before .before .before .read .ensures .1 in
+    let r = c .before .before .before .before .before .before .before .before .read-word in
     let t : l .i + 4 ≤ length (a .values .now) = omega arith in
     let room = mul-le-mul-right (a .w) t in
     let p : (l .i + 2) * a .w ≡ l .i * a .w + 2 * a .w = omega arith in
-    let x = two-twos (a .part .now) (l .i * a .w) (a .w) _ (omega arith) r in
-    (omega arith, omega arith, λ q h. two (a .part .now) (omega arith) (rw p (x .1)) (one (a .part .now) (omega arith) (x .0) (l .inv .2)) q (omega arith))
+    let x = last-four (a .part .now) (l .i * a .w) (a .w) (r .result) (omega arith) (r .ensures) in
+    let known = one (a .part .now) (omega arith) (x .0) (l .inv .5) in
+    (omega arith, omega arith, l .inv .2, l .inv .3, omega arith, λ q h. two (a .part .now) (omega arith) (rw p (x .1)) known q (omega arith))
 
 same-length : tie.Need-same-length Inv-loop μ-loop
 same-length c = omega arith
 
 returns-2 : tie.Need-returns-2 Inv-loop μ-loop
-returns-2 c = (omega arith, c .before .loop .inv .2)
+returns-2 c = (omega arith, c .before .loop .inv .5)
 
 pub decode-fours-spec : {M : Type 1} → statement M
 decode-fours-spec =
@@ -86,11 +88,11 @@ decode-fours-spec =
     Inv-loop
     μ-loop
     returns
+    sub-stop
     loop-holds
-    add-loop
-    mul-read
-    mul-read-2
-    read-requires
+    mul-read-word
+    mul-read-word-2
+    read-word-requires
     mul-put-two
     shr-put-two
     put-two-requires
