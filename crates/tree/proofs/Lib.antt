@@ -12,6 +12,7 @@ pub mod LevelMerges
 pub mod LevelRanks
 pub mod LevelValues
 pub mod LevelsChosen
+pub mod ListedValues
 pub mod Listings
 pub mod NodeFetches
 pub mod NodeTimes

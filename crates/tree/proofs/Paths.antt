@@ -76,7 +76,7 @@ unfolding fromRootIn lastOf
 lastOf-fromRoot zero v b after = refl
 lastOf-fromRoot (suc f) v b after = lastOf-fromRoot f (v / 2) v (b ∷ after)
 
-last-fromRoot : (v : ℕ) → 1 ≤ v → lastOf 0 (fromRoot v) ≡ v
+pub last-fromRoot : (v : ℕ) → 1 ≤ v → lastOf 0 (fromRoot v) ≡ v
 unfolding lastOf
 last-fromRoot v h = ap (lastOf 0) (fromRoot-one v [] h) ∙ lastOf-fromRoot (height (v / 2)) (v / 2) v []
 

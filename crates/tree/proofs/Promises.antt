@@ -15,7 +15,7 @@ use Rattle.tree.specs.Times.{at, timesIn, known}
 use Rattle.tree.specs.Listing.{nowhere, accesses, timesFrom, stopFrom}
 use Rattle.tree.specs.Walks.{toward, lastOf, accessAnswer, searchNodes, searchAnswer}
 use Rattle.tree.specs.Sweeps.{sweep}
-use Rattle.tree.specs.Promises.{HeightLeast, Shape, Held, Contents, SearchFinds, AccessOpens, StoredLevels, ListingFinds, SweepFinds}
+use Rattle.tree.specs.Promises.{HeightLeast, Shape, Held, Contents, SearchFinds, AccessOpens, StoredLevels, ListingFinds, SweepFinds, ChosenStored}
 use Rattle.tree.proofs.Heights.{digits, height-bound, height-le, height-is}
 use Rattle.tree.proofs.Stretches.{stretch-root, stretch-left, stretch-right, node-iff}
 use Rattle.tree.proofs.Inorder.{tree}
@@ -26,6 +26,7 @@ use Rattle.tree.proofs.Sweeps.{sweep-answer, different-pins, different-
 use Rattle.tree.proofs.Contents.{times-back}
 use Rattle.tree.proofs.Listings.{times-end, times-known}
 use Rattle.tree.proofs.TimeBounds.{times-within}
+use Rattle.tree.proofs.ListedValues.{listed-chosen}
 use Rattle.tree.proofs.LevelValues.{length-stored, stored-within, level-within, level-half, level-above, fetched-stored}
 
 pub height-least : HeightLeast
@@ -121,3 +122,6 @@ sweep-finds = record {
   pins = different-pins;
   heights = different-heights;
 }
+
+pub chosen-stored : ChosenStored
+chosen-stored = listed-chosen

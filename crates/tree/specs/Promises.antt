@@ -1,5 +1,5 @@
 -- What is shown of the tree besides each function's contract. proofs/Promises proves each, as `height-least`, `shape`, `contents`,
--- `search-finds`, `access-opens`, `stored-levels`, `listing-finds` and `sweep-finds`.
+-- `search-finds`, `access-opens`, `stored-levels`, `listing-finds`, `sweep-finds` and `chosen-stored`.
 use mathlib.Core.Path.{_≡_}
 use mathlib.Core.Logic.{_≢_, _↔_}
 use mathlib.Core.Bool.{Bool, true, false}
@@ -7,14 +7,16 @@ use mathlib.Core.List.{List, map}
 use Prim.Native.Nat.{ℕ, suc, _-_, _*_, _+_, _^_, _≤_, _<_, min}
 use lib.Dec.{T}
 use lib.ListN.{length, getD}
-use Rattle.codes.specs.Codes.{Within}
+use Rattle.codes.specs.Codes.{part, Within}
+use Rattle.codes.specs.Choice.{chosen}
 use Rattle.tree.specs.declared.nodes.Levels.{Levels}
 use Rattle.tree.specs.Shape.{height, sideOf, stretch, rank}
 use Rattle.tree.specs.Lists.{ordered, smaller}
 use Rattle.tree.specs.Stored.{timeOf, storedValues}
-use Rattle.tree.specs.Levels.{firstOf, levelOf, levelValues, Stores}
+use Rattle.tree.specs.Levels.{firstOf, levelOf, codeOf, partOf, levelValues, Stores}
 use Rattle.tree.specs.Times.{Time, at, timesIn}
 use Rattle.tree.specs.Listing.{nowhere, accesses, timesFrom, stopFrom, endOf}
+use Rattle.tree.specs.Chosen.{allChosen}
 use Rattle.tree.specs.Walks.{walk, Answer, found, toward, accessAnswer, searchNodes, searchAnswer, path, fromRoot}
 use Rattle.tree.specs.Sweeps.{sweep, different}
 
@@ -93,3 +95,11 @@ pub record SweepFinds : Type 0 where
       → sweep (levels .pins) (timesIn levels s) ts ≡ record { positions = map (λ t. smaller t xs) ts; answer = found 0 (different xs ts) }
   pub pins : (xs ts : List ℕ) → different xs ts ≤ length xs
   pub heights : (xs ts : List ℕ) → different xs ts ≤ length ts * height (length xs)
+
+-- 8. Where the levels are what pack writes for the values that they are decoded to, and every position has a time, these values are what the tree of the
+-- listed times stores.
+abbrev pub ChosenStored : Type 0
+ChosenStored = (levels : Levels) (s : List ℕ) → allChosen levels s ≡ true → nowhere ≡ stopFrom (accesses levels s) (levels .pins) 0
+    → (l : ℕ) → 1 ≤ l → l ≤ height (levels .pins)
+    → let vs = levelValues (storedValues (timesFrom (accesses levels s) (levels .pins) 0)) l in
+    (chosen vs .code ≡ codeOf levels l) × (part (codeOf levels l) vs ≡ partOf levels s l)

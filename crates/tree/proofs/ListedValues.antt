@@ -1,0 +1,175 @@
+-- Where every position has a time, the nodes have the times of that list at their ranks, and what is fetched for them is what the list's tree stores.
+use mathlib.Core.Path.{_≡_, refl, sym, ap, subst, _∙_}
+use mathlib.Core.Bool.{Bool, true, false, cond, _&&_, and-eq-true-iff, false≢true}
+use mathlib.Core.List.{List, [], _∷_}
+use Prim.Native.Nat.{ℕ, zero, suc, _+_, _-_, _/_, _%_, _^_, _≤_, _<_, min}
+use native.Mathlib.Nat.{zero-add, add-zero}
+use native.Mathlib.Decide.{decLt, ℕ-discrete}
+use native.Mathlib.Omega.{arith}
+use lib.Dec.{eqb, ltb}
+use lib.ListN.{length, take, drop, getD, length-take, length-drop}
+use lib.Seq.{ext-getD, getD-take, getD-drop}
+use lib.Pow.{pow-pos}
+use borrow.Author.Tests.{lt-ltb, le-ltb, eq-eqb, ne-eqb}
+use Rattle.codes.specs.Codes.{part}
+use Rattle.codes.specs.Choice.{chosen, isChosen}
+use Rattle.codes.specs.Fetch.{Fetched, value, outside, fetched}
+use Rattle.codes.specs.Decode.{Decoded, all, undecoded}
+use Rattle.codes.proofs.Promises.{decode-fetches, chosen-parts}
+use Rattle.tree.specs.declared.nodes.Levels.{Levels}
+use Rattle.tree.specs.Shape.{height, rank}
+use Rattle.tree.specs.Stored.{timeOf, timeAbove, difference, stored, storedValues}
+use Rattle.tree.specs.Levels.{firstOf, countOf, codeOf, partOf, levelValues, fetchedAt}
+use Rattle.tree.specs.Times.{Time, at, refused, under, known, timesIn}
+use Rattle.tree.specs.Walks.{Answer, found, stopped, unless, met, toward, lastOf, accessAnswer, fromRoot}
+use Rattle.tree.specs.Listing.{Stop, nowhere, at as stop-at, accesses, timeThen, timesFrom, stopOr, stopFrom}
+use Rattle.tree.specs.Chosen.{chosenBy, decodedAt, levelChosen, chosenTo, allChosen}
+use Rattle.tree.specs.Promises.{ChosenStored}
+use Rattle.tree.proofs.Heights.{height-is, height-above, level-starts}
+use Rattle.tree.proofs.NodeTimes.{time-above, time-step}
+use Rattle.tree.proofs.Ranks.{rank-lt}
+use Rattle.tree.proofs.Walks.{Found, met-found}
+use Rattle.tree.proofs.Listings.{times-end}
+use Rattle.tree.proofs.Paths.{toward-rank, last-fromRoot, fromRoot-length}
+use Rattle.tree.proofs.Contents.{above-root, above-child}
+use Rattle.tree.proofs.LevelValues.{length-stored, getD-stored}
+
+-- ---- what access finds at each position
+
+-- an answer that is found
+pub record FoundAt (answer : ℕ → Answer) (i t : ℕ) : Type 0 where
+  pub nodes : ℕ
+  pub is : answer i ≡ found t nodes
+
+found-from : (answer : ℕ → Answer) (k i j : ℕ) → nowhere ≡ stopFrom answer k i → j < k → FoundAt answer (i + j) (getD (timesFrom answer k i) j 0)
+unfolding timesFrom stopFrom
+found-from answer zero i j e h = absurd (omega arith)
+found-from answer (suc k) i j e h = go (answer i) refl e j h (λ j′. found-from answer k (suc i) j′)
+  where
+    go : (x : Answer) → answer i ≡ x → nowhere ≡ stopOr i x (stopFrom answer k (suc i)) → (j : ℕ) → j < suc k
+        → ((j′ : ℕ) → nowhere ≡ stopFrom answer k (suc i) → j′ < k → FoundAt answer (suc i + j′) (getD (timesFrom answer k (suc i)) j′ 0))
+        → FoundAt answer (i + j) (getD (timeThen x (timesFrom answer k (suc i))) j 0)
+    go (found t m) p q zero l r = record { nodes = m; is = rw (add-zero i) p }
+    go (found t m) p q (suc j) l r = let s : suc i + j ≡ i + suc j = omega arith in rw s at (r j q (omega arith))
+    go (stopped x c) p q j l r = absurd (let z : _≡_ {A = ℕ} 0 1 = cc in omega arith)
+
+-- the last node of a walk that ends with an answer has a time
+met-last : (time : ℕ → Time) (d x k t m : ℕ) (vs : List ℕ) → 1 ≤ length vs → met time (found x k) vs ≡ found t m → time (lastOf d vs) ≡ at (known (time (lastOf d vs)))
+unfolding met lastOf
+met-last time d x k t m [] h e = absurd (omega arith)
+met-last time d x k t m (v ∷ []) h e = go (time v) e
+  where
+    go : (y : Time) → unless y (found x k) ≡ found t m → y ≡ at (known y)
+    go (at z) q = refl
+    go (refused r u) q = absurd (let z : _≡_ {A = ℕ} 0 1 = cc in omega arith)
+met-last time d x k t m (v ∷ w ∷ vs) h e = go (time v) e (met-last time v x k t m (w ∷ vs) (omega arith))
+  where
+    go : (y : Time) → unless y (met time (found x k) (w ∷ vs)) ≡ found t m
+        → (met time (found x k) (w ∷ vs) ≡ found t m → time (lastOf w vs) ≡ at (known (time (lastOf w vs)))) → time (lastOf w vs) ≡ at (known (time (lastOf w vs)))
+    go (at z) q r = r q
+    go (refused a b) q r = absurd (let z : _≡_ {A = ℕ} 0 1 = cc in omega arith)
+
+-- ---- the nodes
+
+module _ (levels : Levels) (s : List ℕ) (whole : nowhere ≡ stopFrom (accesses levels s) (levels .pins) 0) where
+  abbrev list : List ℕ
+  list = timesFrom (accesses levels s) (levels .pins) 0
+
+  list-length : length list ≡ levels .pins
+  list-length = rw zero-add at (times-end (accesses levels s) (levels .pins) 0) ∙ rw (← whole) (zero-add (levels .pins))
+
+  node-time : (v : ℕ) → 1 ≤ v → v ≤ levels .pins → timesIn levels s v ≡ at (timeOf list v)
+  unfolding timeOf accessAnswer
+  node-time v h k =
+      let n = levels .pins in
+      let time = timesIn levels s in
+      let i = rank n v in
+      let f = found-from (accesses levels s) n 0 i whole (rank-lt n v h k) in
+      let last : lastOf 0 (toward n i) ≡ v = ap (lastOf 0) (toward-rank n v h k) ∙ last-fromRoot v h in
+      let e : accessAnswer n time i ≡ found (getD list i 0) (f .nodes) = rw (zero-add i) at (f .is) in
+      let some : 1 ≤ length (toward n i) = rw (toward-rank n v h k, fromRoot-length v) (height-above v 0 h) in
+      let own = rw last at (met-last time 0 (known (time (lastOf 0 (toward n i)))) (length (toward n i)) (getD list i 0) (f .nodes) (toward n i) some e) in
+      let same : getD list i 0 ≡ known (time v) =
+      subst (Found (λ x m. x ≡ known (time v))) e (met-found (λ x m. x ≡ known (time v)) time (known (time (lastOf 0 (toward n i)))) (length (toward n i)) (ap (λ (u : ℕ). known (time u)) last) (toward n i)) in
+      rw list-length (own ∙ ap at (sym same))
+
+  -- what is fetched for a node follows from its time and its parent's
+  node-value : (v p t : ℕ) (x : Fetched) → under v (at p) x ≡ at t → x ≡ value (difference v p t)
+  node-value v p t outside e = absurd (let z : _≡_ {A = ℕ} 0 1 = cc in omega arith)
+  node-value v p t (value d) e = elim (ℕ-discrete (v % 2) 0) [
+    | yes q ↦ rw (eq-eqb (v % 2) 0 q) (even (decLt p d) (rw (eq-eqb (v % 2) 0 q) at e))
+    | no q ↦ rw (ne-eqb (v % 2) 0 q) (odd (decLt (p + d) (2 ^ 32)) (rw (ne-eqb (v % 2) 0 q) at e))
+  ]
+    where
+      even : Dec (p < d) → cond (ltb p d) (refused 10 v) (at (p - d)) ≡ at t → value d ≡ value (p - t)
+      even (yes h) f = let g : refused 10 v ≡ at t = rw (lt-ltb p d h) at f in absurd (let z : _≡_ {A = ℕ} 0 1 = cc in omega arith)
+      even (no h) f = let g : at (p - d) ≡ at t = rw (le-ltb p d (omega arith)) at f in let t-is : p - d ≡ t = ap known g in ap value (omega arith)
+
+      odd : Dec (p + d < 2 ^ 32) → cond (ltb (p + d) (2 ^ 32)) (at (p + d)) (refused 10 v) ≡ at t → value d ≡ value (t - p)
+      odd (yes h) f = let g : at (p + d) ≡ at t = rw (lt-ltb (p + d) (2 ^ 32) h) at f in let t-is : p + d ≡ t = ap known g in ap value (omega arith)
+      odd (no h) f = let g : refused 10 v ≡ at t = rw (le-ltb (p + d) (2 ^ 32) (omega arith)) at f in absurd (let z : _≡_ {A = ℕ} 0 1 = cc in omega arith)
+
+  above-time : (v : ℕ) → 1 ≤ v → v ≤ levels .pins → timesIn levels s (v / 2) ≡ at (timeAbove list v)
+  above-time v h k = elim (decLt v 2) [
+    | yes l ↦ let e : v / 2 ≡ 0 = omega arith in rw (e, above-root list v l) (time-above (fetchedAt levels s))
+    | no l ↦ rw (above-child list v (omega arith)) (node-time (v / 2) (omega arith) (omega arith))
+  ]
+
+  listed-value : (v : ℕ) → 1 ≤ v → v ≤ levels .pins → fetchedAt levels s v ≡ value (stored list v)
+  unfolding stored
+  listed-value v h k =
+      node-value v (timeAbove list v) (timeOf list v) (fetchedAt levels s v) (rw (above-time v h k) at (sym (time-step (fetchedAt levels s) v h)) ∙ node-time v h k)
+
+  -- ---- the levels
+
+  module _ (l : ℕ) (one : 1 ≤ l) (few : l ≤ height (levels .pins)) where
+    abbrev stores : List ℕ
+    stores = levelValues (storedValues list) l
+
+    count-in : firstOf l - 1 + countOf (levels .pins) l ≤ levels .pins
+    count-in = omega (arith, level-starts (levels .pins) l one few, pow-pos (l - 1))
+
+    stores-length : length stores ≡ countOf (levels .pins) l
+    stores-length = rw (length-take, length-drop, length-stored list, list-length) (omega (arith, count-in))
+
+    -- what a level is decoded to
+    level-values : (vs : List ℕ) → decodedAt levels s l ≡ all vs → vs ≡ stores
+    unfolding fetchedAt
+    level-values vs e =
+        let d = decode-fetches (codeOf levels l) (countOf (levels .pins) l) (partOf levels s l) vs e in
+        ext-getD 0 vs stores (d .0 ∙ sym stores-length) (λ j h.
+        let k : j < countOf (levels .pins) l = rw (d .0) at h in
+        let v = firstOf l + j in
+        let lv : height v ≡ l = level-is j k in
+        let p : v - firstOf l ≡ j = omega arith in
+        let q : suc (firstOf l - 1 + j) ≡ v = omega (arith, pow-pos (l - 1)) in
+        let f : fetchedAt levels s v ≡ value (getD vs j 0) = rw (lv, p) (d .1 j k) in
+        let g : getD vs j 0 ≡ stored list v = values-same (sym f ∙ listed-value v (omega (arith, pow-pos (l - 1))) (omega (arith, count-in, pow-pos (l - 1)))) in
+        let k′ : j < countOf (length (storedValues list)) l = rw (length-stored list ∙ list-length) k in
+        g ∙ sym (getD-take (countOf (length (storedValues list)) l) (drop (firstOf l - 1) (storedValues list)) j 0 k′ ∙ getD-drop (firstOf l - 1) (storedValues list) j 0
+        ∙ getD-stored list (firstOf l - 1 + j) (rw list-length (omega (arith, count-in))) ∙ ap (stored list) q))
+      where
+        values-same : {a b : ℕ} → value a ≡ value b → a ≡ b
+        values-same e = cc
+
+        level-is : (j : ℕ) → j < countOf (levels .pins) l → height (firstOf l + j) ≡ l
+        level-is j k = let e : l ≡ suc (l - 1) = omega arith in height-is (l - 1) (firstOf l + j) (omega arith) (rw (← e) (omega (arith, pow-pos l))) ∙ sym e
+
+    chosen-values : levelChosen levels s l ≡ true → (chosen stores .code ≡ codeOf levels l) × (part (codeOf levels l) stores ≡ partOf levels s l)
+    chosen-values e = go (decodedAt levels s l) refl e
+      where
+        go : (x : Decoded) → decodedAt levels s l ≡ x → chosenBy (codeOf levels l) (partOf levels s l) x ≡ true
+            → (chosen stores .code ≡ codeOf levels l) × (part (codeOf levels l) stores ≡ partOf levels s l)
+        go (all vs) p q = rw (← (level-values vs p)) (chosen-parts .told (codeOf levels l) vs (partOf levels s l) q)
+        go undecoded p q = absurd (false≢true q)
+
+-- each of the first k levels
+chosen-each : (levels : Levels) (s : List ℕ) (k : ℕ) → chosenTo levels s k ≡ true → (l : ℕ) → 1 ≤ l → l ≤ k → levelChosen levels s l ≡ true
+unfolding chosenTo
+chosen-each levels s zero e l a b = absurd (omega arith)
+chosen-each levels s (suc k) e l a b =
+    let both = and-eq-true-iff (chosenTo levels s k) (levelChosen levels s (suc k)) .0 e in
+    elim (ℕ-discrete l (suc k)) [ yes z ↦ rw z (both .1) | no z ↦ chosen-each levels s k (both .0) l a (omega arith) ]
+
+pub listed-chosen : ChosenStored
+listed-chosen levels s e whole l one few = chosen-values levels s whole l one few (chosen-each levels s (height (levels .pins)) e l one few)
