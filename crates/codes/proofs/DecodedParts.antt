@@ -112,20 +112,22 @@ level-spelled code n bs vs w e = go (kindOf code) (kind-known code) e
 
 -- ---- the part
 
+-- zeros up to a whole byte
+padding-is : (bytes : List ℕ) (m : ℕ) → length bytes ≡ bytesFor m → ((j : ℕ) → m ≤ j → getD (bitsOf bytes) j 0 ≡ 0) → drop m (bitsOf bytes) ≡ padding m
+padding-is bytes m l z =
+    let ld : length (drop m (bitsOf bytes)) ≡ bytesFor m * 8 - m = simp (length-drop, length-fixed, l) in
+    let lp : length (padding m) ≡ bytesFor m * 8 - m = length-take-le (bytesFor m * 8 - m) (replicate 7 0) (omega arith) in
+    ext-getD 0 (drop m (bitsOf bytes)) (padding m) (ld ∙ sym lp) (λ j h.
+    getD-drop m (bitsOf bytes) j 0 ∙ z (m + j) (omega arith) ∙ sym (zeros-taken (bytesFor m * 8 - m) 7 j))
+
 pub part-spelled : DecodedPart
 part-spelled code n bytes vs e w l z =
-    let bs = bitsOf bytes in
     let level = levelBits code vs in
-    let m = size code vs in
-    let lb : length bs ≡ length bytes * 8 = length-fixed 8 bytes in
-    let ld : length (drop m bs) ≡ bytesFor m * 8 - m = simp (length-drop, lb, l) in
-    let lp : length (padding m) ≡ bytesFor m * 8 - m = length-take-le (bytesFor m * 8 - m) (replicate 7 0) (omega arith) in
-    let zeros : drop m bs ≡ padding m =
-    ext-getD 0 (drop m bs) (padding m) (ld ∙ sym lp) (λ j h.
-    getD-drop m bs j 0 ∙ z (m + j) (omega arith) ∙ sym (zeros-taken (bytesFor m * 8 - m) 7 j)) in
-    fixed-same 8 (part code vs) bytes (length-padded level ∙ sym l) (within-padded level (bits-kind (kindOf code) vs)) w
-    (bits-padded level (bits-kind (kindOf code) vs) ∙ rw (← zeros)
-    (ap (λ (t : List ℕ). t ++ drop m bs) (sym (level-spelled code n bs vs (bits-fixed 8 bytes) e)) ∙ take-append-drop m bs))
+    let b = bits-kind (kindOf code) vs in
+    let s = level-spelled code n (bitsOf bytes) vs (bits-fixed 8 bytes) e in
+    let p = padding-is bytes (size code vs) l z in
+    fixed-same 8 (part code vs) bytes (length-padded level ∙ sym l) (within-padded level b) w (rw (bits-padded level b, ← p)
+    (ap (λ (t : List ℕ). t ++ drop (size code vs) (bitsOf bytes)) (sym s) ∙ take-append-drop (size code vs) (bitsOf bytes)))
 
 -- the bits after a level's are the padding's
 after-level : (code : ℕ) (vs : List ℕ) → number (drop (size code vs) (bitsOf (part code vs))) ≡ 0
