@@ -44,7 +44,7 @@ pub end-start : (start : ℕ) (len : ℕ → ℕ) → endAfter start len 0 ≡ s
 unfolding endAfter
 end-start start len = refl
 
-end-mono : (start : ℕ) (len : ℕ → ℕ) (d e : ℕ) → d ≤ e → endAfter start len d ≤ endAfter start len e
+pub end-mono : (start : ℕ) (len : ℕ → ℕ) (d e : ℕ) → d ≤ e → endAfter start len d ≤ endAfter start len e
 unfolding endAfter
 end-mono start len d zero h = let z : d ≡ 0 = omega arith in rw z (le-refl start)
 end-mono start len d (suc e) h = elim (decLt d (suc e)) [

@@ -7,6 +7,7 @@ pub mod Gaps
 pub mod Images
 pub mod Layouts
 pub mod Marked
+pub mod OpenImages
 pub mod Openings
 pub mod Pieces
 pub mod Plans

@@ -21,7 +21,8 @@ ghost use Rattle.tree.specs.Lists.{ordered};
 ghost use Rattle.tree.specs.Levels.{Fits};
 ghost use Rattle.tree.specs.Times.{numberOf, nodeOf};
 ghost use Rattle.tree.specs.Buffers.{replaced};
-ghost use Rattle.strip.specs.Outcomes.{test, verdict};
+ghost use Rattle.strip.specs.Outcomes.{gives, test, verdict};
+ghost use Rattle.strip.specs.Opening.{opening};
 ghost use Rattle.strip.specs.Image.{image};
 ghost use Rattle.strip.specs.Calls.{roomFor, written, listIn, checkIn, checked};
 ghost use Rattle.strip.specs.Written.{shortPins, roomOf};
@@ -46,7 +47,7 @@ fn same_bytes(a: &[u8], b: &[u8]) -> bool
 }
 
 // Whether the bytes are the image of an ordered list, which is packed into the lent room.
-fn is_image(room: &mut [u8], s: &[u8], times: &[u32]) -> bool
+fn is_image_in(room: &mut [u8], s: &[u8], times: &[u32]) -> bool
     requires { ⌜ T (ordered (now times)) × (length (now times) < 2 ^ 16) × (roomOf (length (now times)) ≤ length (now room)) ⌝ }
     ensures { λ r. ⌜ r ≡ same (image (now (times .entry))) (now (s .entry)) ⌝ }
 {
@@ -58,9 +59,39 @@ fn is_image(room: &mut [u8], s: &[u8], times: &[u32]) -> bool
     }
 }
 
-// Tests 11 and 12, for a strip with these times.
-fn check_list(room: &mut [u8], s: &[u8], times: &[u32]) -> Checked
-    requires { ⌜ (length (now times) < 2 ^ 16) × (roomOf (length (now times)) ≤ length (now room)) ⌝ }
+// As `is_image`, for a short list.
+fn is_image_short(s: &[u8], times: &[u32]) -> bool
+    requires { ⌜ T (ordered (now times)) × (length (now times) ≤ shortPins) ⌝ }
+    ensures { λ r. ⌜ r ≡ same (image (now (times .entry))) (now (s .entry)) ⌝ }
+{
+    let mut room = [0u8; SHORT_BYTES];
+    is_image_in(&mut room, s, times)
+}
+
+// As `is_image`, for any list.
+fn is_image_long(s: &[u8], times: &[u32]) -> bool
+    requires { ⌜ T (ordered (now times)) × (length (now times) < 2 ^ 16) ⌝ }
+    ensures { λ r. ⌜ r ≡ same (image (now (times .entry))) (now (s .entry)) ⌝ }
+{
+    let mut room = [0u8; Strip::MAX_BYTES];
+    is_image_in(&mut room, s, times)
+}
+
+// Whether the bytes are the image of an ordered list.
+fn is_image(s: &[u8], times: &[u32]) -> bool
+    requires { ⌜ T (ordered (now times)) × (length (now times) < 2 ^ 16) ⌝ }
+    ensures { λ r. ⌜ r ≡ same (image (now (times .entry))) (now (s .entry)) ⌝ }
+{
+    if times.len() <= SHORT_PINS {
+        return is_image_short(s, times);
+    }
+    is_image_long(s, times)
+}
+
+// Tests 11 and 12, for a strip with these times. Where its levels are what pack writes for the values that they are decoded to, the bytes are
+// the list's image; else the list is packed and compared.
+fn check_list(chosen: bool, s: &[u8], times: &[u32]) -> Checked
+    requires { ⌜ (length (now times) < 2 ^ 16) × (chosen ≡ true → image (now times) ≡ now s) ⌝ }
     ensures { λ r. ⌜ checked r ≡ verdict (fallsTest (now (times .entry)) ∷ test (not (same (image (now (times .entry))) (now (s .entry)))) 12 0 ∷ []) (length (now (times .entry))) ⌝ }
 {
     let n = times.len();
@@ -68,7 +99,10 @@ fn check_list(room: &mut [u8], s: &[u8], times: &[u32]) -> Checked
     if lower < n {
         return Checked::Refused(Refusal::TimesFall(lower));
     }
-    if is_image(room, s, times) {
+    if chosen {
+        return Checked::Pins(n);
+    }
+    if is_image(s, times) {
         return Checked::Pins(n);
     }
     Checked::Refused(Refusal::Image)
@@ -85,45 +119,44 @@ fn check_refused(times: &[u32], why: tree::Refusal) -> Checked
     Checked::Refused(of_walk(why))
 }
 
-// Checks a strip that is open. Its times, as far as access is not refused, are left in `times`, and its list is packed into `room`.
-fn check_in(times: &mut [u32], room: &mut [u8], s: &[u8], levels: Levels) -> Checked
-    requires { ⌜ Fits levels (now s) ⌝ }
-    requires { ⌜ (levels .pins ≤ length (now times)) × (roomOf (levels .pins) ≤ length (now room)) ⌝ }
+// Checks a strip that is open. Its times, as far as access is not refused, are left in `times`.
+fn check_in(times: &mut [u32], s: &[u8], levels: Levels) -> Checked
+    requires { ⌜ Fits levels (now s) × (opening (now s) ≡ gives levels) ⌝ }
+    requires { ⌜ levels .pins ≤ length (now times) ⌝ }
     ensures { λ r. ⌜ checked r ≡ checkIn (now (s .entry)) levels ⌝ }
     ensures { λ r. ⌜ now (times .exit) ≡ replaced (now (times .entry)) 0 (listIn (now (s .entry)) levels) ⌝ }
 {
     let n = levels.pins;
-    let listed = tree::list(times, s, levels);
+    let listing = tree::list_compared(times, s, levels);
+    let listed = listing.listed;
     match listed {
-        Listed::All => check_list(room, s, &times[..n]),
+        Listed::All => check_list(listing.chosen, s, &times[..n]),
         Listed::Refused(i, why) => check_refused(&times[..i], why),
     }
 }
 
-// Checks a strip of few pins in short arrays.
+// Checks a strip of few pins in a short array.
 fn check_short(s: &[u8], levels: Levels) -> Checked
-    requires { ⌜ Fits levels (now s) ⌝ }
+    requires { ⌜ Fits levels (now s) × (opening (now s) ≡ gives levels) ⌝ }
     requires { ⌜ levels .pins ≤ shortPins ⌝ }
     ensures { λ r. ⌜ checked r ≡ checkIn (now (s .entry)) levels ⌝ }
 {
     let mut times = [0u32; SHORT_PINS];
-    let mut room = [0u8; SHORT_BYTES];
-    check_in(&mut times, &mut room, s, levels)
+    check_in(&mut times, s, levels)
 }
 
-// Checks any strip in arrays for the longest.
+// Checks any strip in an array for the longest.
 fn check_long(s: &[u8], levels: Levels) -> Checked
-    requires { ⌜ Fits levels (now s) ⌝ }
+    requires { ⌜ Fits levels (now s) × (opening (now s) ≡ gives levels) ⌝ }
     ensures { λ r. ⌜ checked r ≡ checkIn (now (s .entry)) levels ⌝ }
 {
     let mut times = [0u32; Strip::MAX_PINS];
-    let mut room = [0u8; Strip::MAX_BYTES];
-    check_in(&mut times, &mut room, s, levels)
+    check_in(&mut times, s, levels)
 }
 
 // Checks a strip that is open.
 pub(crate) fn check_open(s: &[u8], levels: Levels) -> Checked
-    requires { ⌜ Fits levels (now s) ⌝ }
+    requires { ⌜ Fits levels (now s) × (opening (now s) ≡ gives levels) ⌝ }
     ensures { λ r. ⌜ checked r ≡ checkIn (now (s .entry)) levels ⌝ }
 {
     if levels.pins <= SHORT_PINS {
@@ -145,52 +178,44 @@ fn put_list(out: &mut [u32], times: &[u32]) -> Checked
     Checked::Pins(n)
 }
 
-// Unpacks a strip that is open, in lent arrays.
-fn unpack_in(
-    out: &mut [u32],
-    times: &mut [u32],
-    room: &mut [u8],
-    s: &[u8],
-    levels: Levels,
-) -> Checked
-    requires { ⌜ Fits levels (now s) ⌝ }
-    requires { ⌜ (levels .pins ≤ length (now times)) × (roomOf (levels .pins) ≤ length (now room)) ⌝ }
+// Unpacks a strip that is open, in a lent array.
+fn unpack_in(out: &mut [u32], times: &mut [u32], s: &[u8], levels: Levels) -> Checked
+    requires { ⌜ Fits levels (now s) × (opening (now s) ≡ gives levels) ⌝ }
+    requires { ⌜ levels .pins ≤ length (now times) ⌝ }
     ensures { λ r. ⌜ checked r ≡ unpackIn (now (s .entry)) (length (now (out .entry))) levels ⌝ }
     ensures { λ r. ⌜ now (out .exit) ≡ written (unpackIn (now (s .entry)) (length (now (out .entry))) levels) (listIn (now (s .entry)) levels) (now (out .entry)) ⌝ }
 {
-    let result = check_in(times, room, s, levels);
+    let result = check_in(times, s, levels);
     match result {
         Checked::Pins(n) => put_list(out, &times[..n]),
         Checked::Refused(r) => Checked::Refused(r),
     }
 }
 
-// Unpacks a strip of few pins in short arrays.
+// Unpacks a strip of few pins in a short array.
 fn unpack_short(out: &mut [u32], s: &[u8], levels: Levels) -> Checked
-    requires { ⌜ Fits levels (now s) ⌝ }
+    requires { ⌜ Fits levels (now s) × (opening (now s) ≡ gives levels) ⌝ }
     requires { ⌜ levels .pins ≤ shortPins ⌝ }
     ensures { λ r. ⌜ checked r ≡ unpackIn (now (s .entry)) (length (now (out .entry))) levels ⌝ }
     ensures { λ r. ⌜ now (out .exit) ≡ written (unpackIn (now (s .entry)) (length (now (out .entry))) levels) (listIn (now (s .entry)) levels) (now (out .entry)) ⌝ }
 {
     let mut times = [0u32; SHORT_PINS];
-    let mut room = [0u8; SHORT_BYTES];
-    unpack_in(out, &mut times, &mut room, s, levels)
+    unpack_in(out, &mut times, s, levels)
 }
 
-// Unpacks any strip in arrays for the longest.
+// Unpacks any strip in an array for the longest.
 fn unpack_long(out: &mut [u32], s: &[u8], levels: Levels) -> Checked
-    requires { ⌜ Fits levels (now s) ⌝ }
+    requires { ⌜ Fits levels (now s) × (opening (now s) ≡ gives levels) ⌝ }
     ensures { λ r. ⌜ checked r ≡ unpackIn (now (s .entry)) (length (now (out .entry))) levels ⌝ }
     ensures { λ r. ⌜ now (out .exit) ≡ written (unpackIn (now (s .entry)) (length (now (out .entry))) levels) (listIn (now (s .entry)) levels) (now (out .entry)) ⌝ }
 {
     let mut times = [0u32; Strip::MAX_PINS];
-    let mut room = [0u8; Strip::MAX_BYTES];
-    unpack_in(out, &mut times, &mut room, s, levels)
+    unpack_in(out, &mut times, s, levels)
 }
 
 // Unpacks a strip that is open.
 pub(crate) fn unpack_open(out: &mut [u32], s: &[u8], levels: Levels) -> Checked
-    requires { ⌜ Fits levels (now s) ⌝ }
+    requires { ⌜ Fits levels (now s) × (opening (now s) ≡ gives levels) ⌝ }
     ensures { λ r. ⌜ checked r ≡ unpackIn (now (s .entry)) (length (now (out .entry))) levels ⌝ }
     ensures { λ r. ⌜ now (out .exit) ≡ written (unpackIn (now (s .entry)) (length (now (out .entry))) levels) (listIn (now (s .entry)) levels) (now (out .entry)) ⌝ }
 {

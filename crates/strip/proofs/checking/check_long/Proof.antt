@@ -1,25 +1,24 @@
 -- `check_long` meets its contract.
 use native.Mathlib.Omega.{arith}
-use Rattle.strip.proofs.Checks.{pins-few, any-room}
+use Rattle.strip.proofs.Checks.{pins-few}
 use borrow.Author.Needs.{needs}
 use Rattle.strip.proofs.checking.check_long.Statement.{statement}
 use Rattle.strip.proofs.checking.check_long.Tie as tie
+use Rattle.strip.proofs.checking.check_long.Reads as reads
+use Rattle.strip.proofs.checking.check_long.Lts as lts
+use Rattle.strip.proofs.checking.check_in.Reads as check-in-reads
 
 slice-aggregate-check-in : tie.Need-slice-aggregate-check-in
 slice-aggregate-check-in c = search needs
 
-slice-aggregate-check-in-2 : tie.Need-slice-aggregate-check-in-2
-slice-aggregate-check-in-2 c = search needs
-
 check-in-requires : tie.Need-check-in-requires
 check-in-requires c κs =
-    let few = pins-few (c .before .before .before .args .levels) (c .before .before .before .args .s .now) (c .before .before .before .pre) in
-    (c .before .before .before .pre, (omega arith, any-room (c .before .before .before .args .levels .pins) (omega arith)))
+    let p = c .before .before .pre in
+    let few = pins-few (c .before .before .args .levels) (c .before .before .args .s .now) (p .0) in
+    (p, omega arith)
 
 returns : tie.Need-returns
 returns c = search needs
 
 pub check-long-spec : {M : Type 1} → statement M
-check-long-spec =
-    tie.close
-    (tie.spec slice-aggregate-check-in slice-aggregate-check-in-2 check-in-requires returns)
+check-long-spec = tie.close (tie.spec slice-aggregate-check-in check-in-requires returns)

@@ -12,7 +12,7 @@ enum-told : tie.Need-enum-told
 enum-told c = search needs
 
 check-open-requires : tie.Need-check-open-requires
-check-open-requires c κs = rw (c .enum-told .given .1) at (c .before .before .opening-of .ensures .1)
+check-open-requires c κs = let o = c .before .before .opening-of in (rw (c .enum-told .given .1) at (o .ensures .1), opening-is (c .before .before .before .before .args .s .now) (o .result) _ (o .ensures .0) (c .enum-told .given .1))
 
 enum-known-status : tie.Need-enum-known-status
 enum-known-status c = search needs

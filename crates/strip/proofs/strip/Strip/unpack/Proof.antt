@@ -13,7 +13,7 @@ enum-told : tie.Need-enum-told
 enum-told c = search needs
 
 unpack-open-requires : tie.Need-unpack-open-requires
-unpack-open-requires c κs = rw (c .before .enum-told .given .1) at (c .before .before .before .opening-of .ensures .1)
+unpack-open-requires c κs = let o = c .before .before .before .opening-of in (rw (c .before .enum-told .given .1) at (o .ensures .1), opening-is (c .before .before .before .before .before .before .args .s .now) (o .result) _ (o .ensures .0) (c .before .enum-told .given .1))
 
 enum-known-status : tie.Need-enum-known-status
 enum-known-status c = search needs

@@ -1,4 +1,4 @@
--- `is_image` meets its contract.
+-- `is_image_in` meets its contract.
 use mathlib.Core.Path.{sym, ap, _∙_}
 use mathlib.Core.List.{List}
 use Prim.Native.Nat.{ℕ}
@@ -7,8 +7,8 @@ use Rattle.codes.specs.Lists.{same}
 use Rattle.strip.specs.Calls.{packed}
 use Rattle.strip.proofs.Checks.{image-packs, image-length, image-front}
 use borrow.Author.Needs.{needs}
-use Rattle.strip.proofs.checking.is_image.Statement.{statement}
-use Rattle.strip.proofs.checking.is_image.Tie as tie
+use Rattle.strip.proofs.checking.is_image_in.Statement.{statement}
+use Rattle.strip.proofs.checking.is_image_in.Tie as tie
 
 pack-list-requires : tie.Need-pack-list-requires
 pack-list-requires c κs = search needs
@@ -46,8 +46,8 @@ same-length-2 c = search needs
 returns-2 : tie.Need-returns-2
 returns-2 c = absurd (image-packs (c .before .before .before .before .before .before .before .before .before .args .times .now) (c .before .before .before .before .before .before .before .before .before .pre .1) (λ j. c .before .before .before .before .before .before .shared-slice-known2 .given j .fits) (length (c .before .before .before .before .before .before .before .before .before .args .room .now)) (c .before .before .before .before .before .before .before .before .before .pre .2) _ _ (sym (ap packed (c .enum-told .given .1)) ∙ c .before .before .before .before .pack-list .ensures .0))
 
-pub is-image-spec : {M : Type 1} → statement M
-is-image-spec =
+pub is-image-in-spec : {M : Type 1} → statement M
+is-image-in-spec =
     tie.close
     (tie.spec
     pack-list-requires

@@ -1,0 +1,22 @@
+-- `is_image_short` meets its contract.
+use native.Mathlib.Omega.{arith}
+use lib.ListN.{length}
+use Rattle.strip.proofs.Checks.{short-room}
+use borrow.Author.Needs.{needs}
+use Rattle.strip.proofs.checking.is_image_short.Statement.{statement}
+use Rattle.strip.proofs.checking.is_image_short.Tie as tie
+use Rattle.strip.proofs.checking.is_image_short.Reads as reads
+use Rattle.strip.proofs.checking.is_image_short.Lts as lts
+use Rattle.strip.proofs.checking.is_image_in.Reads as is-image-in-reads
+
+slice-aggregate-is-image-in : tie.Need-slice-aggregate-is-image-in
+slice-aggregate-is-image-in c = search needs
+
+is-image-in-requires : tie.Need-is-image-in-requires
+is-image-in-requires c κs = let p = c .before .before .before .pre in (p .0, omega arith, short-room (length (c .before .before .before .args .times .now)) (p .1))
+
+returns : tie.Need-returns
+returns c = search needs
+
+pub is-image-short-spec : {M : Type 1} → statement M
+is-image-short-spec = tie.close (tie.spec slice-aggregate-is-image-in is-image-in-requires returns)
