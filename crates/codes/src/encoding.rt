@@ -43,7 +43,8 @@ pub fn copy_values(work: &mut [u32], values: &[u32])
     }
 }
 
-pub(crate) fn clear(work: &mut [u32], n: usize)
+// Makes the first `n` values 0.
+pub fn clear(work: &mut [u32], n: usize)
     requires { ⌜ n ≤ length (now work) ⌝ }
     ensures { λ r. ⌜ now (work .exit) ≡ replicate n 0 ++ drop n (now (work .entry)) ⌝ }
 {

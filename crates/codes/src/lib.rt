@@ -14,6 +14,7 @@ pub use choosing::Choice;
 pub use choosing::choose;
 pub use comparing::is_chosen;
 pub use decoding::decode;
+pub use encoding::clear;
 pub use encoding::copy_values;
 pub use encoding::encode;
 pub use fetching::Found;

@@ -20,7 +20,7 @@ ghost use Rattle.codes.specs.Lists.{same};
 ghost use Rattle.tree.specs.Lists.{ordered};
 ghost use Rattle.tree.specs.Levels.{Fits};
 ghost use Rattle.tree.specs.Times.{numberOf, nodeOf};
-ghost use Rattle.tree.specs.Buffers.{replaced};
+ghost use Rattle.tree.specs.Buffers.{replaced, Clear};
 ghost use Rattle.strip.specs.Outcomes.{gives, test, verdict};
 ghost use Rattle.strip.specs.Opening.{opening};
 ghost use Rattle.strip.specs.Image.{image};
@@ -119,10 +119,10 @@ fn check_refused(times: &[u32], why: tree::Refusal) -> Checked
     Checked::Refused(of_walk(why))
 }
 
-// Checks a strip that is open. Its times, as far as access is not refused, are left in `times`.
+// Checks a strip that is open. Its times, as far as access is not refused, are left in `times`, a new array.
 fn check_in(times: &mut [u32], s: &[u8], levels: Levels) -> Checked
     requires { ⌜ Fits levels (now s) × (opening (now s) ≡ gives levels) ⌝ }
-    requires { ⌜ levels .pins ≤ length (now times) ⌝ }
+    requires { ⌜ (levels .pins ≤ length (now times)) × Clear (levels .pins) (now times) ⌝ }
     ensures { λ r. ⌜ checked r ≡ checkIn (now (s .entry)) levels ⌝ }
     ensures { λ r. ⌜ now (times .exit) ≡ replaced (now (times .entry)) 0 (listIn (now (s .entry)) levels) ⌝ }
 {
@@ -178,10 +178,10 @@ fn put_list(out: &mut [u32], times: &[u32]) -> Checked
     Checked::Pins(n)
 }
 
-// Unpacks a strip that is open, in a lent array.
+// Unpacks a strip that is open, in a new array that is lent.
 fn unpack_in(out: &mut [u32], times: &mut [u32], s: &[u8], levels: Levels) -> Checked
     requires { ⌜ Fits levels (now s) × (opening (now s) ≡ gives levels) ⌝ }
-    requires { ⌜ levels .pins ≤ length (now times) ⌝ }
+    requires { ⌜ (levels .pins ≤ length (now times)) × Clear (levels .pins) (now times) ⌝ }
     ensures { λ r. ⌜ checked r ≡ unpackIn (now (s .entry)) (length (now (out .entry))) levels ⌝ }
     ensures { λ r. ⌜ now (out .exit) ≡ written (unpackIn (now (s .entry)) (length (now (out .entry))) levels) (listIn (now (s .entry)) levels) (now (out .entry)) ⌝ }
 {

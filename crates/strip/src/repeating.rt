@@ -12,6 +12,7 @@ ghost use Prim.Native.Nat.{_≤_};
 ghost use lib.ListN.{length};
 ghost use Rattle.tree.specs.Levels.{Fits};
 ghost use Rattle.tree.specs.Listing.{accesses};
+ghost use Rattle.tree.specs.Buffers.{Clear};
 ghost use Rattle.strip.specs.Calls.{repeatFrom, repeated};
 ghost use Rattle.strip.specs.Written.{shortPins};
 ghost use Rattle.strip.specs.Read.{gapOr};
@@ -30,10 +31,10 @@ fn gap_or(times: &[u32], r: u32, end: Repeated) -> Repeated
     Repeated::First(i)
 }
 
-// Repeat r of a strip that is open, with its times in a lent array.
+// Repeat r of a strip that is open, with its times in a new array that is lent.
 fn repeat_in(times: &mut [u32], s: &[u8], levels: Levels, r: u32) -> Repeated
     requires { ⌜ Fits levels (now s) ⌝ }
-    requires { ⌜ levels .pins ≤ length (now times) ⌝ }
+    requires { ⌜ (levels .pins ≤ length (now times)) × Clear (levels .pins) (now times) ⌝ }
     ensures { λ x. ⌜ repeated x ≡ repeatFrom (accesses levels (now (s .entry))) r (levels .pins) 0 ⌝ }
 {
     let n = levels.pins;

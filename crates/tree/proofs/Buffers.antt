@@ -1,12 +1,12 @@
 -- Entries written into a buffer one after the other.
-use mathlib.Core.Path.{_≡_, sym, ap, _∙_}
+use mathlib.Core.Path.{_≡_, refl, sym, ap, _∙_}
 use mathlib.Core.List.{List, [], _∷_, _++_, append-assoc, append-nil}
-use Prim.Native.Nat.{ℕ, _+_, _≤_, _<_}
+use Prim.Native.Nat.{ℕ, zero, suc, _+_, _≤_, _<_}
 use native.Mathlib.Nat.{zero-add, add-zero}
 use native.Mathlib.Omega.{arith}
 use lib.ListN.{length, take, drop, set, replicate, length-append, length-take, length-drop, length-replicate, take-append-drop}
 use lib.Seq.{take-at, drop-at, drop-drop, length-take-le, append-snoc, sets-eq}
-use Rattle.tree.specs.Buffers.{replaced}
+use Rattle.tree.specs.Buffers.{replaced, Clear}
 
 pub length-replaced : (out : List ℕ) (a : ℕ) (p : List ℕ) → a + length p ≤ length out → length (replaced out a p) ≡ length out
 length-replaced out a p h =
@@ -60,3 +60,12 @@ new-room k n h = rw length-replicate h
 
 pub new-front : (k n : ℕ) → n ≤ k → n ≡ length (take n (replicate {A = ℕ} k 0))
 new-front k n h = sym (length-take-le n (replicate {A = ℕ} k 0) (new-room k n h))
+
+pub new-clear : (k n : ℕ) → n ≤ k → Clear n (replicate k 0)
+new-clear k zero h = refl
+new-clear zero (suc n) h = absurd (omega arith)
+new-clear (suc k) (suc n) h = ap (λ (l : List ℕ). 0 ∷ l) (new-clear k n (omega arith))
+
+-- the front, which has been written to, is made 0 again
+pub clear-again : (n : ℕ) (front out : List ℕ) → length front ≡ n → Clear n out → replicate n 0 ++ drop n (front ++ drop n out) ≡ out
+clear-again n front out l e = rw (drop-at front (drop n out) n l, ← e) (take-append-drop n out)

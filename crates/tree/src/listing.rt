@@ -12,7 +12,7 @@ ghost use mathlib.Core.Bool.{true, _&&_};
 ghost use Prim.Native.Nat.{_≤_};
 ghost use lib.ListN.{length};
 ghost use Rattle.tree.specs.Levels.{Fits};
-ghost use Rattle.tree.specs.Buffers.{replaced};
+ghost use Rattle.tree.specs.Buffers.{replaced, Clear};
 ghost use Rattle.tree.specs.Listing.{accesses, timesFrom, stopFrom, listed};
 ghost use Rattle.tree.specs.Standing.{Stands, Reaches};
 ghost use Rattle.tree.specs.Chosen.{allChosen};
@@ -107,32 +107,32 @@ fn list_levels(
     }
 }
 
-// As `list_by`, with room for what the nodes store and for a list that may fail. Where all levels are decoded and no time is below 0 or above the
-// greatest, they are listed level by level; else the nodes are opened one by one.
+// As `list_by`, with room for what the nodes store. Where all levels are decoded and no time is below 0 or above the greatest, they are listed level
+// by level; else the entries are made 0 again, and the nodes are opened one by one.
 fn list_in(
     times: &mut [u32],
     values: &mut [u32],
-    list: &mut [u32],
     s: &[u8],
     levels: Levels,
     compare: bool,
 ) -> Listing
     requires { ⌜ Fits levels (now s) ⌝ }
-    requires { ⌜ (levels .pins ≤ length (now times)) × (levels .pins ≡ length (now values)) × (levels .pins ≡ length (now list)) ⌝ }
+    requires { ⌜ (levels .pins ≤ length (now times)) × Clear (levels .pins) (now times) × (levels .pins ≡ length (now values)) ⌝ }
     ensures { λ r. ⌜ listed (r .listed) ≡ stopFrom (accesses levels (now (s .entry))) (levels .pins) 0 ⌝ }
     ensures { λ r. ⌜ r .chosen ≡ compare && allChosen levels (now (s .entry)) ⌝ }
     ensures { λ r. ⌜ now (times .exit) ≡ replaced (now (times .entry)) 0 (timesFrom (accesses levels (now (s .entry))) (levels .pins) 0) ⌝ }
 {
-    let decoding = list_levels(list, values, s, levels, compare);
+    let n = levels.pins;
+    let decoding = list_levels(&mut times[..n], values, s, levels, compare);
     if decoding.decoded {
-        codes::copy_values(times, list);
         return Listing {
             listed: Listed::All,
             chosen: decoding.chosen,
         };
     }
+    codes::clear(times, n);
     Listing {
-        listed: list_under(times, s, levels, 0, levels.pins, 1, 0, 0),
+        listed: list_under(times, s, levels, 0, n, 1, 0, 0),
         chosen: decoding.chosen,
     }
 }
@@ -140,35 +140,33 @@ fn list_in(
 // As `list_by`, for at most 1,023 pins, so that a short list need not clear room for the longest one.
 fn list_short(times: &mut [u32], s: &[u8], levels: Levels, compare: bool) -> Listing
     requires { ⌜ Fits levels (now s) × (levels .pins ≤ 1023) ⌝ }
-    requires { ⌜ levels .pins ≤ length (now times) ⌝ }
+    requires { ⌜ (levels .pins ≤ length (now times)) × Clear (levels .pins) (now times) ⌝ }
     ensures { λ r. ⌜ listed (r .listed) ≡ stopFrom (accesses levels (now (s .entry))) (levels .pins) 0 ⌝ }
     ensures { λ r. ⌜ r .chosen ≡ compare && allChosen levels (now (s .entry)) ⌝ }
     ensures { λ r. ⌜ now (times .exit) ≡ replaced (now (times .entry)) 0 (timesFrom (accesses levels (now (s .entry))) (levels .pins) 0) ⌝ }
 {
     let mut values = [0u32; 1023];
-    let mut list = [0u32; 1023];
     let n = levels.pins;
-    list_in(times, &mut values[..n], &mut list[..n], s, levels, compare)
+    list_in(times, &mut values[..n], s, levels, compare)
 }
 
 // As `list_by`, for any number of pins that 16 levels have.
 fn list_long(times: &mut [u32], s: &[u8], levels: Levels, compare: bool) -> Listing
     requires { ⌜ Fits levels (now s) ⌝ }
-    requires { ⌜ levels .pins ≤ length (now times) ⌝ }
+    requires { ⌜ (levels .pins ≤ length (now times)) × Clear (levels .pins) (now times) ⌝ }
     ensures { λ r. ⌜ listed (r .listed) ≡ stopFrom (accesses levels (now (s .entry))) (levels .pins) 0 ⌝ }
     ensures { λ r. ⌜ r .chosen ≡ compare && allChosen levels (now (s .entry)) ⌝ }
     ensures { λ r. ⌜ now (times .exit) ≡ replaced (now (times .entry)) 0 (timesFrom (accesses levels (now (s .entry))) (levels .pins) 0) ⌝ }
 {
     let mut values = [0u32; 65535];
-    let mut list = [0u32; 65535];
     let n = levels.pins;
-    list_in(times, &mut values[..n], &mut list[..n], s, levels, compare)
+    list_in(times, &mut values[..n], s, levels, compare)
 }
 
 // Lists, and compares the levels with what pack writes where that is asked.
 fn list_by(times: &mut [u32], s: &[u8], levels: Levels, compare: bool) -> Listing
     requires { ⌜ Fits levels (now s) ⌝ }
-    requires { ⌜ levels .pins ≤ length (now times) ⌝ }
+    requires { ⌜ (levels .pins ≤ length (now times)) × Clear (levels .pins) (now times) ⌝ }
     ensures { λ r. ⌜ listed (r .listed) ≡ stopFrom (accesses levels (now (s .entry))) (levels .pins) 0 ⌝ }
     ensures { λ r. ⌜ r .chosen ≡ compare && allChosen levels (now (s .entry)) ⌝ }
     ensures { λ r. ⌜ now (times .exit) ≡ replaced (now (times .entry)) 0 (timesFrom (accesses levels (now (s .entry))) (levels .pins) 0) ⌝ }
@@ -179,10 +177,10 @@ fn list_by(times: &mut [u32], s: &[u8], levels: Levels, compare: bool) -> Listin
     list_long(times, s, levels, compare)
 }
 
-// Writes the times at the positions from 0 on to the front of `times`, up to the first at which access is refused.
+// Writes the times at the positions from 0 on to the front of `times`, a new array, up to the first at which access is refused.
 pub fn list(times: &mut [u32], s: &[u8], levels: Levels) -> Listed
     requires { ⌜ Fits levels (now s) ⌝ }
-    requires { ⌜ levels .pins ≤ length (now times) ⌝ }
+    requires { ⌜ (levels .pins ≤ length (now times)) × Clear (levels .pins) (now times) ⌝ }
     ensures { λ r. ⌜ listed r ≡ stopFrom (accesses levels (now (s .entry))) (levels .pins) 0 ⌝ }
     ensures { λ r. ⌜ now (times .exit) ≡ replaced (now (times .entry)) 0 (timesFrom (accesses levels (now (s .entry))) (levels .pins) 0) ⌝ }
 {
@@ -193,7 +191,7 @@ pub fn list(times: &mut [u32], s: &[u8], levels: Levels) -> Listed
 // As `list`, and says whether the levels are what pack writes for the values that they are decoded to.
 pub fn list_compared(times: &mut [u32], s: &[u8], levels: Levels) -> Listing
     requires { ⌜ Fits levels (now s) ⌝ }
-    requires { ⌜ levels .pins ≤ length (now times) ⌝ }
+    requires { ⌜ (levels .pins ≤ length (now times)) × Clear (levels .pins) (now times) ⌝ }
     ensures { λ r. ⌜ listed (r .listed) ≡ stopFrom (accesses levels (now (s .entry))) (levels .pins) 0 ⌝ }
     ensures { λ r. ⌜ r .chosen ≡ allChosen levels (now (s .entry)) ⌝ }
     ensures { λ r. ⌜ now (times .exit) ≡ replaced (now (times .entry)) 0 (timesFrom (accesses levels (now (s .entry))) (levels .pins) 0) ⌝ }

@@ -1,6 +1,8 @@
 -- `repeat_long` meets its contract.
 use native.Mathlib.Omega.{arith}
 use Rattle.strip.proofs.Checks.{pins-few}
+use Prim.Native.Nat.{_≤_}
+use Rattle.tree.proofs.Buffers.{new-clear}
 use borrow.Author.Needs.{needs}
 use Rattle.strip.proofs.repeating.repeat_long.Statement.{statement}
 use Rattle.strip.proofs.repeating.repeat_long.Tie as tie
@@ -9,7 +11,10 @@ slice-aggregate-repeat-in : tie.Need-slice-aggregate-repeat-in
 slice-aggregate-repeat-in c = search needs
 
 repeat-in-requires : tie.Need-repeat-in-requires
-repeat-in-requires c κs = (c .before .before .pre, omega (arith, pins-few (c .before .before .args .levels) (c .before .before .args .s .now) (c .before .before .pre)))
+repeat-in-requires c κs =
+    let a = c .before .before .args in
+    let pins : a .levels .pins ≤ 65535 = omega (arith, pins-few (a .levels) (a .s .now) (c .before .before .pre)) in
+    (c .before .before .pre, (pins, new-clear 65535 (a .levels .pins) pins))
 
 returns : tie.Need-returns
 returns c = search needs

@@ -20,17 +20,10 @@ array-borrow-prefix-values c = new-room 65535 (c .before .before .before .args .
 slice-aggregate-list-in : tie.Need-slice-aggregate-list-in
 slice-aggregate-list-in c = new-front 65535 (c .before .before .before .before .args .levels .pins) (few (c .before .before .before .before))
 
-array-borrow-prefix-list : tie.Need-array-borrow-prefix-list
-array-borrow-prefix-list c = new-room 65535 (c .before .before .before .before .args .levels .pins) (few (c .before .before .before .before))
-
-slice-aggregate-list-in-2 : tie.Need-slice-aggregate-list-in-2
-slice-aggregate-list-in-2 c = new-front 65535 (c .before .before .before .before .before .args .levels .pins) (few (c .before .before .before .before .before))
-
 list-in-requires : tie.Need-list-in-requires
 list-in-requires c κs =
-    let p = c .before .before .before .before .before .pre in
-    let front = new-front 65535 (c .before .before .before .before .before .args .levels .pins) (few (c .before .before .before .before .before)) in
-    (p .0, (p .1, front, front))
+    let p = c .before .before .before .before .pre in
+    (p .0, (p .1 .0, p .1 .1, new-front 65535 (c .before .before .before .before .args .levels .pins) (few (c .before .before .before .before))))
 
 same-length : tie.Need-same-length
 same-length c = search needs
@@ -44,8 +37,6 @@ list-long-spec =
     (tie.spec
     array-borrow-prefix-values
     slice-aggregate-list-in
-    array-borrow-prefix-list
-    slice-aggregate-list-in-2
     list-in-requires
     same-length
     returns)

@@ -14,17 +14,10 @@ array-borrow-prefix-values c = search needs
 slice-aggregate-list-in : tie.Need-slice-aggregate-list-in
 slice-aggregate-list-in c = new-front 1023 (c .before .before .before .before .args .levels .pins) (omega arith)
 
-array-borrow-prefix-list : tie.Need-array-borrow-prefix-list
-array-borrow-prefix-list c = search needs
-
-slice-aggregate-list-in-2 : tie.Need-slice-aggregate-list-in-2
-slice-aggregate-list-in-2 c = new-front 1023 (c .before .before .before .before .before .args .levels .pins) (omega arith)
-
 list-in-requires : tie.Need-list-in-requires
 list-in-requires c κs =
-    let p = c .before .before .before .before .before .pre in
-    let front = new-front 1023 (c .before .before .before .before .before .args .levels .pins) (omega arith) in
-    (p .0 .0, (p .1, front, front))
+    let p = c .before .before .before .before .pre in
+    (p .0 .0, (p .1 .0, p .1 .1, new-front 1023 (c .before .before .before .before .args .levels .pins) (omega arith)))
 
 same-length : tie.Need-same-length
 same-length c = search needs
@@ -38,8 +31,6 @@ list-short-spec =
     (tie.spec
     array-borrow-prefix-values
     slice-aggregate-list-in
-    array-borrow-prefix-list
-    slice-aggregate-list-in-2
     list-in-requires
     same-length
     returns)
