@@ -4,11 +4,12 @@ use super::kinds::kind_of;
 use super::reading::count_ones;
 use super::reading::least;
 use super::reading::read;
+use super::reading::read_short;
 ghost use mathlib.Core.Path.{_≡_};
-ghost use Prim.Native.Nat.{_+_, _*_, _-_, _^_, _<_, _≤_};
+ghost use Prim.Native.Nat.{ℕ, _+_, _*_, _-_, _^_, _<_, _≤_};
 ghost use lib.ListN.{length, take, drop};
 ghost use Rattle.codes.specs.Bits.{number, sum, bitsOf};
-ghost use Rattle.codes.specs.Fetch.{found, fixedAt, chunkedAt, within32, fetched};
+ghost use Rattle.codes.specs.Fetch.{value, found, fixedAt, chunkedAt, within32, fetched};
 
 // What a fetch finds: a value, or that it passes its part or the value is 2^32 or more.
 pub enum Found {
@@ -115,4 +116,15 @@ pub fn fetch(part: &[u8], code: u8, count: usize, index: usize) -> Found
         Kind::Chunked(b) => fetch_chunked(part, b, count, index),
         Kind::Refused => Found::Outside,
     }
+}
+
+// Value `index` of a level in a fixed code of 1 to 25 bits, where it lies in the part, and the part has 4 bytes or more. The number of
+// values is no matter.
+pub fn fetch_inside(part: &[u8], code: u8, index: usize) -> u32
+    requires { ⌜ (1 ≤ code) × (code ≤ 25) × (4 ≤ length (now part)) × (length (now part) < 2 ^ 32) ⌝ }
+    requires { ⌜ (index + 1) * code ≤ length (now part) * 8 ⌝ }
+    ensures { λ r. ⌜ ((count : ℕ) → value r ≡ fetched code count index (now (part .entry))) ⌝ }
+{
+    let w = code as usize;
+    read_short(part, index * w, w)
 }

@@ -90,6 +90,20 @@ pub(crate) fn read(part: &[u8], at: usize, w: usize) -> u64
     low_bits(read_word(part, at, w), w)
 }
 
+// The number that the `w` bits from bit `at` on spell, where 4 bytes have them: near the end of the part its last 4. It is shorter than
+// `read`, so that a walk can have it in its loop.
+pub(crate) fn read_short(part: &[u8], at: usize, w: usize) -> u32
+    requires { ⌜ (1 ≤ w) × (at % 8 + w ≤ 32) × (4 ≤ length (now part)) ⌝ }
+    requires { ⌜ at + w ≤ length (now part) * 8 ⌝ }
+    ensures { λ r. ⌜ r ≡ number (take w (drop at (bitsOf (now (part .entry))))) ⌝ }
+{
+    let first = least(at / 8, part.len() - 4);
+    low_bits(
+        four_bytes(part, first) as u64 >> (32 - (at - first * 8) - w),
+        w,
+    ) as u32
+}
+
 // How many of the `w` bits from bit `at` on are 1.
 fn ones_at(part: &[u8], at: usize, w: usize) -> usize
     requires { ⌜ (w < 64) × (at % 8 + w ≤ 64) ⌝ }
