@@ -40,6 +40,10 @@ under v (at p) (value d) =
     (cond (ltb p d) (refused 10 v) (at (p - d)))
     (cond (ltb (p + d) (2 ^ 32)) (at (p + d)) (refused 10 v))
 
+-- a number as node v's time: one of 2 ^ 32 or more is refusal 10
+abbrev pub timeBelow : ℕ → ℕ → Time
+timeBelow v x = cond (ltb x (2 ^ 32)) (at x) (refused 10 v)
+
 -- by the parent's time, f times; above the root the time is 0
 unfoldable pub nodeTimeIn : ℕ → (ℕ → Fetched) → ℕ → Time
 nodeTimeIn zero fetch v = at 0

@@ -7,7 +7,7 @@ ghost use Prim.Native.Nat.{_+_, _-_, _*_, _/_, _^_, _≤_, _<_, min};
 ghost use lib.ListN.{length};
 ghost use Rattle.codes.specs.Fetch.{value, fetched};
 ghost use Rattle.tree.specs.Levels.{levelsOf, fetchedAt, Fits};
-ghost use Rattle.tree.specs.Times.{at, under, timeOpened, timesIn};
+ghost use Rattle.tree.specs.Times.{at, under, timeOpened, timeBelow, timesIn};
 ghost use Rattle.tree.specs.Known.{KnownTimes};
 
 // The pin count, each level's code byte and each level's end. Entry 0 of the ends is where the first level starts; so the part
@@ -29,26 +29,41 @@ pub enum Refusal {
 // The greatest time.
 pub const GREATEST: u32 = 4294967295;
 
+// 2^32, the least number that is no time.
+const LIMIT: u64 = 4294967296;
+
 // The time of a node that is opened.
 pub(crate) enum Opened {
     Time(u32),
     Refused(Refusal),
 }
 
-// The time of node v, which stores `d`, by its parent's: a left child is `d` before it, a right child `d` after it.
+// The time of node v, which stores `d`, by its parent's: a left child is `d` before it, a right child `d` after it. Where it is no time
+// this is 2^32 or more. Both sides have one sum, since a branch on a node's side would be wrong half of the time.
+fn time_or_more(v: usize, above: u32, d: u32) -> u64
+    ensures { λ r. ⌜ timeBelow v r ≡ under v (at above) (value d) ⌝ }
+{
+    let change = if v % 2 == 0 {
+        LIMIT - d as u64
+    } else {
+        LIMIT + d as u64
+    };
+    let time = above as u64 + change;
+    if time < LIMIT {
+        return LIMIT;
+    }
+    time - LIMIT
+}
+
+// The same, with the refusal.
 pub(crate) fn time_under(v: usize, above: u32, d: u32) -> Opened
     ensures { λ r. ⌜ timeOpened r ≡ under v (at above) (value d) ⌝ }
 {
-    if v % 2 == 0 {
-        if above < d {
-            return Opened::Refused(Refusal::Time(v));
-        }
-        return Opened::Time(above - d);
+    let time = time_or_more(v, above, d);
+    if time < LIMIT {
+        return Opened::Time(time as u32);
     }
-    if GREATEST - above < d {
-        return Opened::Refused(Refusal::Time(v));
-    }
-    Opened::Time(above + d)
+    Opened::Refused(Refusal::Time(v))
 }
 
 // Opens node v of n by a fetch from its level's part alone, in code `code`. It has `depth` levels and the time `above` above it.
