@@ -1,8 +1,10 @@
 // One node: what it stores on its level, and its time.
 use super::shape::power_of_two;
 use codes::Found;
+use codes::fetch_inside;
 use codes::least;
 ghost use mathlib.Core.Path.{_≡_};
+ghost use mathlib.Core.Bool.{true};
 ghost use Prim.Native.Nat.{_+_, _-_, _*_, _/_, _^_, _≤_, _<_, min};
 ghost use lib.ListN.{length};
 ghost use Rattle.codes.specs.Fetch.{value, fetched};
@@ -30,7 +32,7 @@ pub enum Refusal {
 pub const GREATEST: u32 = 4294967295;
 
 // 2^32, the least number that is no time.
-const LIMIT: u64 = 4294967296;
+pub(crate) const LIMIT: u64 = 4294967296;
 
 // The time of a node that is opened.
 pub(crate) enum Opened {
@@ -101,6 +103,49 @@ pub(crate) fn open_at<'a>(
     open_node(&s[start..end], code, n, depth, v, above)
 }
 
+// Whether `fetch_inside` has a value of a part of so many bytes.
+fn is_inside(code: u8, bytes: usize, index: usize) -> bool
+    requires { ⌜ (bytes < 2 ^ 32) × (index < 2 ^ 32) ⌝ }
+    ensures { λ r. ⌜ (r ≡ true → (1 ≤ code) × (code ≤ 25) × (4 ≤ bytes) × ((index + 1) * code ≤ bytes * 8)) ⌝ }
+{
+    if code == 0 {
+        return false;
+    }
+    if code > 25 {
+        return false;
+    }
+    if bytes < 4 {
+        return false;
+    }
+    (index + 1) * code as usize <= bytes * 8
+}
+
+// The time of node v of n where `fetch_inside` has its value, or 2^32 or more, which says nothing. Most nodes of a walk are such, and
+// this is short enough to stand in the walk's loop; `open_at` opens any node.
+pub(crate) fn short_time<'a>(
+    s: &[u8],
+    ends: &'a [usize],
+    codes: &'a [u8],
+    n: usize,
+    depth: usize,
+    v: usize,
+    above: u32,
+) -> u64
+    requires { ⌜ Fits (levelsOf n (now codes) (now ends)) (now s) ⌝ }
+    requires { ⌜ (length (now codes) ≡ 16) × (length (now ends) ≡ 17) ⌝ }
+    requires { ⌜ (2 ^ depth ≤ v) × (v < 2 * 2 ^ depth) × (v ≤ n) ⌝ }
+    ensures { λ r. ⌜ (r < 2 ^ 32 → at r ≡ under v (at above) (fetchedAt (levelsOf n (now (codes .entry)) (now (ends .entry))) (now (s .entry)) v)) ⌝ }
+{
+    let start = ends[depth];
+    let end = ends[depth + 1];
+    let code = codes[depth];
+    let index = v - power_of_two(depth);
+    if is_inside(code, end - start, index) {
+        return time_or_more(v, above, fetch_inside(&s[start..end], code, index));
+    }
+    LIMIT
+}
+
 // Opens node v of n, the time of which is read where it is known: `known` has the times of the first nodes.
 pub(crate) fn open_known<'a>(
     known: &[u32],
@@ -121,6 +166,10 @@ pub(crate) fn open_known<'a>(
 {
     if v <= known.len() {
         return Opened::Time(known[v - 1]);
+    }
+    let short = short_time(s, ends, codes, n, depth, v, above);
+    if short < LIMIT {
+        return Opened::Time(short as u32);
     }
     open_at(s, ends, codes, n, depth, v, above)
 }
