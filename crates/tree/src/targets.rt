@@ -79,7 +79,7 @@ pub(crate) fn left_by(times: &[u32], count: usize, target: u32) -> usize
 }
 
 // Opens nodes from a point on: to the left child where a node's time is at or above the target, else to the right one, until no child.
-// `opened` nodes have been opened before.
+// `opened` nodes have been opened before. A later target goes mostly to the left, so its side is one branch, which is mostly foretold.
 pub(crate) fn go_down<'a>(
     known: &[u32],
     s: &[u8],
@@ -123,14 +123,17 @@ pub(crate) fn go_down<'a>(
             }
         }
         let place = root_place(here.pins);
-        if time >= target {
+        if time < target {
+            here = side_of(here, place, true);
+            v = child_of(v, true);
+        } else {
             nodes[count] = v;
             times[count] = time;
             ranks[count] = here.start + place - 1;
             count += 1;
+            here = side_of(here, place, false);
+            v = child_of(v, false);
         }
-        here = side_of(here, place, time < target);
-        v = child_of(v, time < target);
         depth += 1;
     }
     Walked {

@@ -11,7 +11,7 @@ use lib.Dec.{ltb}
 use lib.ListN.{length}
 use Rattle.tree.specs.declared.nodes.Levels.{Levels}
 use Rattle.tree.specs.Times.{at, timesIn}
-use Rattle.tree.specs.Shape.{childOf}
+use Rattle.tree.specs.Shape.{childOf, sideOf}
 use Rattle.tree.specs.Levels.{levelsOf}
 use Rattle.tree.specs.Walks.{found, keptFrom, targetFrom}
 use Rattle.tree.specs.Standing.{Stands}
@@ -151,34 +151,51 @@ side-of-requires c κs = omega (arith, placed (c .before))
 child-of-requires : tie.Need-child-of-requires Inv-loop μ-loop
 child-of-requires c κs = omega (arith, level (c .before .before .before .before .before .before .before))
 
+side-of-requires-2 : tie.Need-side-of-requires-2 Inv-loop μ-loop
+side-of-requires-2 c κs = omega (arith, placed (c .before .before))
+
+child-of-requires-2 : tie.Need-child-of-requires-2 Inv-loop μ-loop
+child-of-requires-2 c κs = omega (arith, level (c .before .before .before .before .before .before .before .before))
+
 add-depth : tie.Need-add-depth Inv-loop μ-loop
-add-depth c = omega (arith, level (c .before .before .before .before .before .before .before .before))
+add-depth c = omega (arith, level (c .before .before .before .before .before .before))
+
+-- where the walk goes on from: the child that the comparison tells
+joined : (c : tie.Joined1 Inv-loop μ-loop) → let l = c .before .before .before .before .before .before .before .loop in let past = ltb (c .before .before .before .node .given .0 .0) (start (c .before .before .before .before .before .before .before) .args .target) in
+    (c .if1 .v ≡ childOf past (l .v)) × (c .if1 .here ≡ sideOf past (l .here))
+joined c =
+    let x = c .before .before .before .node .given .0 .0 in
+    let t = start (c .before .before .before .before .before .before .before) .args .target in
+    ⊎-elim
+    (λ w. rw (lt-ltb x t (w .0 .taken)) (w .7 ∙ w .2 .ensures, w .8 ∙ w .1 .ensures))
+    (λ w. rw (le-ltb x t (w .0 .left)) (w .8 ∙ w .3 .ensures, w .9 ∙ w .2 .ensures))
+    (c .if1 .came)
 
 loop-less : tie.Need-loop-less Inv-loop μ-loop
 loop-less c =
-    let l = c .before .before .before .before .before .before .before .before .before .loop in
-    let x = c .before .before .before .before .before .node .given .0 .0 in
-    rw (c .before .side-of .ensures) (side-in (ltb x (start (c .before .before .before .before .before .before .before .before .before) .args .target)) (l .here) (stands-pins (l .inv .0) (omega arith)) .0)
+    let l = c .before .before .before .before .before .before .before .loop in
+    let x = c .before .before .before .node .given .0 .0 in
+    rw (joined c .1) (side-in (ltb x (start (c .before .before .before .before .before .before .before) .args .target)) (l .here) (stands-pins (l .inv .0) (omega arith)) .0)
 
 loop-again : tie.Need-loop-again Inv-loop μ-loop
 loop-again c =
-    let at-loop = c .before .before .before .before .before .before .before .before .before in
+    let at-loop = c .before .before .before .before .before .before .before in
     let a = start at-loop .args in
     let l = at-loop .loop in
     let f = start at-loop .pre .0 in
-    let j = c .before .before .if1 in
+    let j = c .if1 in
     let n = a .n in
     let read = timesIn (levels at-loop) (a .s .now) in
-    let x = c .before .before .before .before .before .node .given .0 .0 in
+    let x = c .before .before .before .node .given .0 .0 in
     let t = a .target in
-    let e = time-is (c .before .before .before .before .before) in
+    let e = time-is (c .before .before .before) in
     let now = kept-child (l .inv .0) (l .inv .1) (omega arith) f x t in
     let p : remembered (j .count) (j .nodes) (j .times) (j .ranks) ≡ cond (ltb x t) (kept at-loop) (withNode (levels at-loop) (a .s .now) (kept at-loop) (l .v) x) = ⊎-elim
-    (λ w. rw (w .2, w .3, w .4, w .5, le-ltb x t (w .0 .taken), c .before .before .before .root-place .ensures) (added (levels at-loop) (a .s .now) (kept at-loop) (l .v) x _ (sym (stands-rank (l .inv .0)))))
-    (λ w. rw (w .1, w .2, w .3, w .4, lt-ltb x t (omega (arith, w .0 .left))))
+    (λ w. rw (w .3, w .4, w .5, w .6, lt-ltb x t (w .0 .taken)))
+    (λ w. rw (w .4, w .5, w .6, w .7, le-ltb x t (w .0 .left), c .before .root-place .ensures) (added (levels at-loop) (a .s .now) (kept at-loop) (l .v) x _ (sym (stands-rank (l .inv .0)))))
     (j .came) in
     let q = ap keptIn p ∙ now in
-    rw (c .child-of .ensures, c .before .side-of .ensures) (
+    rw (joined c .0, joined c .1) (
       stands-child (l .inv .0) (ltb x t) x (omega arith) e,
       rw p (resumes-child (l .inv .0) (l .inv .1) (omega arith) f x t e),
       ap (λ (k : List ℕ). targetFrom n read t k (l .opened + 1) (childOf (ltb x t) (l .v))) q
@@ -223,6 +240,8 @@ go-down-spec =
     same-length-3
     returns
     root-place-requires
+    side-of-requires
+    child-of-requires
     mul-nodes
     slice-write-nodes
     mul-times
@@ -232,8 +251,8 @@ go-down-spec =
     mul-ranks
     slice-write-ranks
     add-count
-    side-of-requires
-    child-of-requires
+    side-of-requires-2
+    child-of-requires-2
     add-depth
     loop-less
     loop-again
