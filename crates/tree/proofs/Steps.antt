@@ -1,6 +1,6 @@
 -- One turn of the loops of access and of a target is one step of the definition.
 use mathlib.Core.Path.{_≡_, sym, ap, _∙_}
-use mathlib.Core.Bool.{Bool, cond}
+use mathlib.Core.Bool.{Bool, true, false, cond}
 use mathlib.Core.List.{List, _∷_}
 use Prim.Native.Nat.{ℕ, suc, _+_, _-_, _/_, _≤_, _<_}
 use native.Mathlib.Nat.{zero-add, le-refl}
@@ -19,7 +19,7 @@ use Rattle.tree.specs.Times.{Time, at, refused, timeOpened, under, known
 use Rattle.tree.specs.Walks.{Answer, found, stopped, met, towardFrom, toward, lastOf, accessAnswer, isBelow, searchNodes, remember, position, keptFrom, targetFrom}
 use Rattle.tree.specs.Standing.{Stands, accessFrom}
 use Rattle.tree.proofs.Heights.{height-is, digits, place-in}
-use Rattle.tree.proofs.Stretches.{stretch-root, stretch-child, side-in, pins-of-node, node-of-pins}
+use Rattle.tree.proofs.Stretches.{stretch-root, stretch-child, side-in, pins-of-node, node-of-pins, no-pins}
 use Rattle.tree.proofs.NodeTimes.{time-above, time-step}
 use Rattle.tree.proofs.NodeFetches.{Level, level-fits}
 use Rattle.tree.proofs.Walks.{child-bounds, parent-of, walk-out, walk-on, toward-on, met-fine, met-refused}
@@ -67,6 +67,16 @@ module _ {levels : Levels} {s : List ℕ} {v depth : ℕ} {here : Stretch} {abov
   pub stands-rank : rank (levels .pins) v ≡ here .start + rootPlace (here .pins) - 1
   unfolding rank
   stands-rank = rw (w .under)
+
+  -- past the last node the stretch ends where it starts
+  pub stands-end : levels .pins < v → here .start + here .pins ≡ here .start
+  stands-end k = omega (arith, rw (w .under) at (no-pins (levels .pins) v k))
+
+  -- a side ends at the node's rank or where the stretch ends
+  pub side-ends : v ≤ levels .pins → (right : Bool) (kept : List ℕ) → position (levels .pins) kept ≡ here .start + here .pins
+      → position (levels .pins) (cond right kept (v ∷ kept)) ≡ sideOf right here .start + sideOf right here .pins
+  side-ends k true kept e = let p = stands-place k in e ∙ omega arith
+  side-ends k false kept e = let p = stands-place k in stands-rank ∙ omega arith
 
   pub stands-level : Fits levels s → v ≤ levels .pins → Level levels s depth
   stands-level f k = level-fits f (w .low) k

@@ -1,16 +1,14 @@
 // Access and search: walks from the root down.
+use super::nodes::LIMIT;
 use super::nodes::Levels;
 use super::nodes::Opened;
 use super::nodes::Refusal;
 use super::nodes::open_at;
+use super::nodes::short_time;
 use super::shape::Stretch;
 use super::shape::child_of;
 use super::shape::root_place;
 use super::shape::side_of;
-use super::targets::Ending;
-use super::targets::at_root;
-use super::targets::go_down;
-use super::targets::position_of;
 ghost use mathlib.Core.Path.{_≡_};
 ghost use Prim.Native.Nat.{_<_};
 ghost use Rattle.tree.specs.Levels.{Fits};
@@ -65,33 +63,37 @@ pub fn access(s: &[u8], levels: Levels, i: usize) -> Accessed
     }
 }
 
-// The rank of the last node left by its left side, or n: left where a node's time is at or above the target, else right.
+// The rank of the last node left by its left side, or n: left where a node's time is at or above the target, else right. That is where
+// the stretch ends, and at the end of the walk, where it has no pins, also where it starts. Either side is as likely, so none is a branch.
 pub fn search(s: &[u8], levels: Levels, target: u32) -> Searched
     requires { ⌜ Fits levels (now s) ⌝ }
     ensures { λ r. ⌜ searched r ≡ searchAnswer (levels .pins) (timesIn levels (now (s .entry))) target ⌝ }
 {
     let n = levels.pins;
-    let none = [0u32; 0];
-    let mut nodes = [0usize; 16];
-    let mut times = [0u32; 16];
-    let mut ranks = [0usize; 16];
-    let walked = go_down(
-        &none,
-        s,
-        &levels.ends,
-        &levels.codes,
-        n,
-        &mut nodes,
-        &mut times,
-        &mut ranks,
-        0,
-        target,
-        at_root(n),
-        0,
-    );
-    let ending = walked.ending;
-    match ending {
-        Ending::Nodes(opened) => Searched::Position(position_of(&ranks, walked.count, n), opened),
-        Ending::Refused(r) => Searched::Refused(r),
+    let mut v: usize = 1;
+    let mut depth: usize = 0;
+    let mut here = Stretch { start: 0, pins: n };
+    let mut time: u32 = 0;
+    let mut nodes: usize = 0;
+    while v <= n {
+        nodes += 1;
+        let short = short_time(s, &levels.ends, &levels.codes, n, depth, v, time);
+        if short < LIMIT {
+            time = short as u32;
+        } else {
+            let opened = open_at(s, &levels.ends, &levels.codes, n, depth, v, time);
+            match opened {
+                Opened::Time(t) => {
+                    time = t;
+                }
+                Opened::Refused(r) => {
+                    return Searched::Refused(r);
+                }
+            }
+        }
+        here = side_of(here, root_place(here.pins), time < target);
+        v = child_of(v, time < target);
+        depth += 1;
     }
+    Searched::Position(here.start, nodes)
 }

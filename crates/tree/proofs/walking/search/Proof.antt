@@ -1,79 +1,144 @@
 -- `search` meets its contract.
 use native.Mathlib.Omega.{arith}
-use mathlib.Core.Path.{refl, sym, ap, _∙_}
-use Prim.Native.Nat.{ℕ}
+use mathlib.Core.Bool.{cond}
+use mathlib.Core.Logic.{⊎-elim}
+use mathlib.Core.List.{List, [], _∷_}
+use mathlib.Core.Path.{_≡_, refl, sym, ap, _∙_}
+use Prim.Native.Nat.{ℕ, _+_, _≤_}
+use native.Mathlib.Nat.{zero-add}
 use borrow.Author.Needs.{needs}
-use Rattle.tree.specs.Walks.{found}
-use Rattle.tree.specs.Remembering.{Remembered, remembered, entries, answerBy}
-use Rattle.tree.proofs.Steps.{root-depth, stands-root}
-use Rattle.tree.proofs.Remembering.{keeps-none, keeps-few, resumes-root, remembers-opened}
+use lib.Dec.{ltb}
+use Rattle.tree.specs.declared.nodes.Opened.the-variants.{Time}
+use Rattle.tree.specs.Times.{at, timesIn}
+use Rattle.tree.specs.Walks.{found, position, targetFrom, searchAnswer}
+use Rattle.tree.specs.Standing.{Stands}
+use Rattle.tree.proofs.Stretches.{side-in}
+use Rattle.tree.proofs.NodeFetches.{Level}
+use Rattle.tree.proofs.Steps.{stands-root, stands-pins, stands-end, stands-level, stands-opened, stands-child, side-ends, target-end, target-refused, target-step}
 use Rattle.tree.proofs.walking.search.Statement.{statement}
 use Rattle.tree.proofs.walking.search.Tie as tie
 
-slice-aggregate-go-down : tie.Need-slice-aggregate-go-down
-slice-aggregate-go-down c = search needs
+-- the stretch ends at the position of the nodes that are left by their left side, the deepest first
+abbrev Inv-loop : tie.InvT-loop
+Inv-loop s target levels n v₀ depth₀ here₀ time₀ nodes₀ v depth here time nodes =
+    let read = timesIn levels s in
+    Stands levels s v depth here time × (nodes ≡ depth)
+    × ((kept : List ℕ) × (position (levels .pins) kept ≡ here .start + here .pins)
+    × (targetFrom (levels .pins) read target kept nodes v ≡ searchAnswer (levels .pins) read target))
 
-slice-aggregate-go-down-2 : tie.Need-slice-aggregate-go-down-2
-slice-aggregate-go-down-2 c = search needs
+abbrev μ-loop : tie.MeasureT-loop
+μ-loop s target levels n v₀ depth₀ here₀ time₀ nodes₀ v depth here time nodes = here .pins
 
-slice-aggregate-go-down-3 : tie.Need-slice-aggregate-go-down-3
-slice-aggregate-go-down-3 c = search needs
+loop-holds : tie.Need-loop-holds Inv-loop μ-loop
+loop-holds c = let a = c .before .args in (stands-root (a .t2) (a .s .now), refl, ([], sym (zero-add (a .t2 .pins)), refl))
 
-slice-aggregate-go-down-4 : tie.Need-slice-aggregate-go-down-4
-slice-aggregate-go-down-4 c = search needs
+-- the node's level lies in the bytes
+level : (c : tie.In-loop Inv-loop μ-loop) → let a = c .before .before .before .args in Level (a .t2) (a .s .now) (c .before .loop .depth)
+level c = stands-level (c .before .loop .inv .0) (c .before .before .before .pre) (omega arith)
 
-at-root-requires : tie.Need-at-root-requires
-at-root-requires c κs = search needs
+-- its time
+time-is : (c : tie.Joined1 Inv-loop μ-loop) → let a = c .before .before .before .before .before .before .before .before .before .before .args in timesIn (a .t2) (a .s .now) (c .before .before .before .before .before .before .before .before .loop .v) ≡ at (c .if1 .time)
+time-is c =
+    let w = c .before .before .before .before .before .before .before .before .loop .inv .0 in
+    ⊎-elim
+    (λ k. rw (k .1) (stands-opened w {o = Time (c .before .short-time .result)} (c .before .short-time .ensures (k .0 .taken)) refl))
+    (λ k. rw (k .10) (stands-opened w (k .6 .ensures) (k .8 .given .1)))
+    (c .if1 .came)
 
-go-down-requires : tie.Need-go-down-requires
-go-down-requires c κs =
-    let e = c .before .before .before .before .before .before .before .before .before .before .before in
-    let levels = e .args .t2 in
-    let s = e .args .s .now in
-    rw (c .at-root .ensures) (e .pre, ((search needs, search needs), (λ v h k. absurd (omega arith), (rw root-depth (stands-root levels s), resumes-root levels s _ (keeps-none levels s refl refl refl) refl))))
+add-nodes : tie.Need-add-nodes Inv-loop μ-loop
+add-nodes c = omega (arith, level c)
 
--- what is left remembered
-abbrev kept : tie.After-go-down → Remembered
-kept c = let l = c .go-down .last .1 .1 .1 .1 .1 in remembered (c .go-down .result .count) (l .0) (l .1 .0) (l .1 .1 .0)
+short-time-requires : tie.Need-short-time-requires Inv-loop μ-loop
+short-time-requires c κs =
+    let w = c .before .before .before .before .before .before .loop .inv .0 in
+    (c .before .before .before .before .before .before .before .before .pre, ((search needs, search needs), (w .low, w .high, omega arith)))
 
-enum-known-ending : tie.Need-enum-known-ending
-enum-known-ending c = search needs
+cast-time : tie.Need-cast-time Inv-loop μ-loop
+cast-time c = search needs
 
-slice-aggregate-position-of : tie.Need-slice-aggregate-position-of
-slice-aggregate-position-of c = search needs
+open-at-requires : tie.Need-open-at-requires Inv-loop μ-loop
+open-at-requires c κs =
+    let w = c .before .before .before .before .before .before .before .before .before .before .before .before .before .loop .inv .0 in
+    (c .before .before .before .before .before .before .before .before .before .before .before .before .before .before .before .pre, ((search needs, search needs), (w .low, w .high, omega arith)))
 
-position-of-requires : tie.Need-position-of-requires
-position-of-requires c κs =
-    let e = c .before .before .before .before .before .before .before .before .before .before .before .before .before .before .before .before .before .before .before in
-    let levels = e .args .t2 in
-    let s = e .args .s .now in
-    let left = remembers-opened levels s (kept (c .before .before .before .before .before .before .before)) _ _ _ (c .before .before .ending .given .1) (c .before .before .before .before .before .before .before .go-down .ensures .1) in
-    rw (left .1 .keeps .ranks-size) (keeps-few levels s (kept (c .before .before .before .before .before .before .before)) (e .pre) (left .1 .keeps))
+enum-known-opened : tie.Need-enum-known-opened Inv-loop μ-loop
+enum-known-opened c = search needs
 
-enum-known-ending-2 : tie.Need-enum-known-ending-2
-enum-known-ending-2 c = search needs
+enum-known-opened-2 : tie.Need-enum-known-opened-2 Inv-loop μ-loop
+enum-known-opened-2 c = search needs
 
-returns : tie.Need-returns
-unfolding entries
-returns c = ap (λ (p : ℕ). found p (c .before .before .before .ending .given .0 .0)) (c .position-of .ensures) ∙ sym (ap (answerBy _) (c .before .before .before .ending .given .1)) ∙ rw (c .before .before .before .before .before .before .before .before .before .at-root .ensures) at (c .before .before .before .before .before .before .before .before .go-down .ensures .0)
+returns : tie.Need-returns Inv-loop μ-loop
+returns c =
+    let a = c .before .before .before .before .before .before .before .before .before .before .before .before .before .before .before .before .before .before .before .args in
+    let l = c .before .before .before .before .before .before .before .before .before .before .before .before .before .before .before .before .before .loop in
+    let e = stands-opened (l .inv .0) (c .before .before .before .open-at .ensures) (c .before .opened2 .given .1) in
+    sym (target-refused (a .t2 .pins) (timesIn (a .t2) (a .s .now)) (a .target) (l .inv .2 .0) (l .nodes) (l .v) _ _ (l .inv .0 .one) (omega arith) e) ∙ l .inv .2 .2
 
-returns-2 : tie.Need-returns-2
-unfolding entries
-returns-2 c = sym (ap (answerBy _) (c .before .ending2 .given .1)) ∙ rw (c .before .before .before .before .before .before .before .at-root .ensures) at (c .before .before .before .before .before .before .go-down .ensures .0)
+root-place-requires : tie.Need-root-place-requires Inv-loop μ-loop
+root-place-requires c κs = tt
+
+side-of-requires : tie.Need-side-of-requires Inv-loop μ-loop
+side-of-requires c κs =
+    let w = c .before .before .before .before .before .before .before .before .before .loop .inv .0 in
+    (stands-pins w (omega arith), c .root-place .ensures, omega (arith, w .inside, level (c .before .before .before .before .before .before .before .before)))
+
+child-of-requires : tie.Need-child-of-requires Inv-loop μ-loop
+child-of-requires c κs = omega (arith, level (c .before .before .before .before .before .before .before .before .before))
+
+add-depth : tie.Need-add-depth Inv-loop μ-loop
+add-depth c = omega (arith, level (c .before .before .before .before .before .before .before .before .before .before))
+
+loop-less : tie.Need-loop-less Inv-loop μ-loop
+loop-less c =
+    let l = c .before .before .before .before .before .before .before .before .before .before .before .loop in
+    rw (c .before .side-of .ensures) (side-in (ltb (c .before .before .before .if1 .time) (c .before .before .before .before .before .before .before .before .before .before .before .before .before .args .target)) (l .here) (stands-pins (l .inv .0) (omega arith)) .0)
+
+loop-again : tie.Need-loop-again Inv-loop μ-loop
+loop-again c =
+    let a = c .before .before .before .before .before .before .before .before .before .before .before .before .before .args in
+    let l = c .before .before .before .before .before .before .before .before .before .before .before .loop in
+    let x = c .before .before .before .if1 .time in
+    let t = a .target in
+    let n = a .t2 .pins in
+    let e = time-is (c .before .before .before) in
+    let kept = l .inv .2 .0 in
+    let k : l .v ≤ n = omega arith in
+    rw (c .child-of .ensures, c .before .side-of .ensures) (
+      stands-child (l .inv .0) (ltb x t) x k e,
+      omega arith,
+      (
+        cond (ltb x t) kept (l .v ∷ kept),
+        side-ends (l .inv .0) k (ltb x t) kept (l .inv .2 .1),
+        sym (target-step n (timesIn (a .t2) (a .s .now)) t kept (l .v) x (l .inv .0 .one) k e (l .nodes)) ∙ l .inv .2 .2,
+      ),
+    )
+
+returns-2 : tie.Need-returns-2 Inv-loop μ-loop
+returns-2 c =
+    let a = c .before .before .before .args in
+    let l = c .before .loop in
+    let n = a .t2 .pins in
+    ap (λ (p : ℕ). found p (l .nodes)) (sym (l .inv .2 .1 ∙ stands-end (l .inv .0) (omega arith)))
+    ∙ sym (target-end n (timesIn (a .t2) (a .s .now)) (a .target) (l .inv .2 .0) (l .nodes) (l .v) (omega arith)) ∙ l .inv .2 .2
 
 pub search-spec : {M : Type 1} → statement M
 search-spec =
     tie.close
     (tie.spec
-    slice-aggregate-go-down
-    slice-aggregate-go-down-2
-    slice-aggregate-go-down-3
-    slice-aggregate-go-down-4
-    at-root-requires
-    go-down-requires
-    enum-known-ending
-    slice-aggregate-position-of
-    position-of-requires
-    enum-known-ending-2
+    Inv-loop
+    μ-loop
+    loop-holds
+    add-nodes
+    short-time-requires
+    cast-time
+    open-at-requires
+    enum-known-opened
+    enum-known-opened-2
     returns
+    root-place-requires
+    side-of-requires
+    child-of-requires
+    add-depth
+    loop-less
+    loop-again
     returns-2)
