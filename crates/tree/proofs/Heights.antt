@@ -78,6 +78,15 @@ top-digit n h =
     let hi : n / 2 ^ d .top < 2 = shr-lt {n = n} 1 (d .top) (omega (arith, d .below, pow-add 2 1 (d .top))) in
     rw e (omega arith)
 
+-- the first d + 1 digits
+pub first-digits : (n d k : ℕ) → 1 ≤ n → d + suc k ≡ height n → (2 ^ d ≤ n / 2 ^ k) × (n / 2 ^ k < 2 * 2 ^ d)
+first-digits n d k h e =
+    let t = digits n h in
+    let e′ : t .top ≡ d + k = omega (arith, t .is) in
+    let least : 2 ^ d * 2 ^ k ≤ n = rw (e′, pow-add 2 d k) at (t .least) in
+    let below : n < 2 ^ (suc d + k) = let s : suc (d + k) ≡ suc d + k = omega arith in rw (e′, s) at (t .below) in
+    (rw (shl-shr (2 ^ d) k) at (shr-mono {a = 2 ^ d * 2 ^ k} {b = n} k least), rw (pow-succ' 2 d) at (shr-lt {n = n} (suc d) k below))
+
 -- ---- the root's place
 
 -- of a number with k + 2 binary digits

@@ -20,6 +20,7 @@ pub mod Orders
 pub mod Paths
 pub mod Promises
 pub mod Ranks
+pub mod NodePlaces
 pub mod Remembering
 pub mod Shifts
 pub mod Steps

@@ -1,9 +1,9 @@
 -- The nodes that access and search open in the tree of a list, and where a search ends.
 use mathlib.Core.Path.{_≡_, refl, sym, ap, ap₂, _∙_}
 use mathlib.Core.Bool.{Bool, true, false, cond}
-use mathlib.Core.List.{List, [], _∷_, _++_, append-nil}
-use Prim.Native.Nat.{ℕ, zero, suc, _+_, _/_, _≤_, _<_}
-use native.Mathlib.Nat.{le-refl, zero-add}
+use mathlib.Core.List.{List, [], _∷_, _++_, append-nil, append-assoc}
+use Prim.Native.Nat.{ℕ, zero, suc, _+_, _-_, _/_, _^_, _≤_, _<_}
+use native.Mathlib.Nat.{le-refl, zero-add, pow-succ', div-one, div-div-eq-div-mul}
 use native.Mathlib.Decide.{decLt}
 use native.Mathlib.Omega.{arith}
 use lib.Dec.{T, eqb, ltb}
@@ -13,7 +13,7 @@ use Rattle.tree.specs.Shape.{height, childOf, rank}
 use Rattle.tree.specs.Lists.{ordered, smaller}
 use Rattle.tree.specs.Stored.{timeOf}
 use Rattle.tree.specs.Times.{Time, at, known}
-use Rattle.tree.specs.Walks.{walk, found, towardFrom, toward, lastOf, accessAnswer, fromRootIn, fromRoot}
+use Rattle.tree.specs.Walks.{walk, found, met, towardFrom, toward, lastOf, accessAnswer, fromRootIn, fromRoot}
 use Rattle.tree.specs.Walks.{never, isBelow, searchNodes, remember, position, keptFrom, targetFrom, searchAnswer, path}
 use Rattle.tree.specs.Filled.{Under, here, below}
 use Rattle.tree.proofs.Heights.{height-zero, height-step}
@@ -79,6 +79,35 @@ lastOf-fromRoot (suc f) v b after = lastOf-fromRoot f (v / 2) v (b ∷ after)
 pub last-fromRoot : (v : ℕ) → 1 ≤ v → lastOf 0 (fromRoot v) ≡ v
 unfolding lastOf
 last-fromRoot v h = ap (lastOf 0) (fromRoot-one v [] h) ∙ lastOf-fromRoot (height (v / 2)) (v / 2) v []
+
+-- the last k of the nodes from the root to node v
+unfoldable pub downTo : ℕ → ℕ → List ℕ
+downTo v zero = []
+downTo v (suc k) = v / 2 ^ k ∷ downTo v k
+
+pub downTo-on : (v k : ℕ) → 1 ≤ k → downTo v k ≡ v / 2 ^ (k - 1) ∷ downTo v (k - 1)
+unfolding downTo
+downTo-on v zero h = absurd (omega arith)
+downTo-on v (suc k) h = let e : suc k - 1 ≡ k = omega arith in rw e
+
+downTo-more : (k v : ℕ) → downTo v (suc k) ≡ downTo (v / 2) k ++ (v ∷ [])
+unfolding downTo
+downTo-more zero v = rw (div-one v)
+downTo-more (suc k) v =
+    rw (pow-succ' 2 k, ← (div-div-eq-div-mul v 2 (2 ^ k))) (ap (λ (us : List ℕ). v / 2 / 2 ^ k ∷ us) (downTo-more k v))
+
+downTo-fromRoot : (k v : ℕ) (after : List ℕ) → fromRootIn k v after ≡ downTo v k ++ after
+unfolding fromRootIn downTo
+downTo-fromRoot zero v after = refl
+downTo-fromRoot (suc k) v after =
+    downTo-fromRoot k (v / 2) (v ∷ after) ∙ sym (ap (λ (us : List ℕ). us ++ after) (downTo-more k v) ∙ append-assoc (downTo (v / 2) k) (v ∷ []) after)
+
+-- an access opens these
+pub access-down : (n v : ℕ) (time : ℕ → Time) → 1 ≤ v → v ≤ n
+    → accessAnswer n time (rank n v) ≡ met time (found (known (time v)) (height v)) (downTo v (height v))
+unfolding accessAnswer
+access-down n v time h k =
+    rw (toward-rank n v h k, last-fromRoot v h, fromRoot-length v, downTo-fromRoot (height v) v [], append-nil (downTo v (height v)))
 
 -- so no two nodes have one rank
 pub rank-once : (n u v : ℕ) → 1 ≤ u → u ≤ n → 1 ≤ v → v ≤ n → rank n u ≡ rank n v → u ≡ v

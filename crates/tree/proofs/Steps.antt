@@ -1,15 +1,14 @@
--- One turn of the loops of access and of a target is one step of the definition.
+-- One turn of the loops of search and of a target, and one node of a listing, is one step of the definition.
 use mathlib.Core.Path.{_≡_, sym, ap, _∙_}
 use mathlib.Core.Bool.{Bool, true, false, cond}
 use mathlib.Core.List.{List, _∷_}
 use Prim.Native.Nat.{ℕ, suc, _+_, _-_, _/_, _≤_, _<_}
 use native.Mathlib.Nat.{zero-add, le-refl}
 use native.Mathlib.Numerals.{add-one}
-use native.Mathlib.Decide.{decLt}
 use native.Mathlib.Omega.{arith}
 use lib.Dec.{ltb}
 use lib.ListN.{length}
-use borrow.Author.Tests.{lt-ltb, le-ltb, eq-eqb, ne-eqb}
+use borrow.Author.Tests.{eq-eqb, ne-eqb}
 use Rattle.tree.specs.declared.shape.Stretch.{Stretch}
 use Rattle.tree.specs.declared.nodes.Levels.{Levels}
 use Rattle.tree.specs.declared.nodes.Opened.{Opened}
@@ -135,16 +134,6 @@ module _ (n : ℕ) (time : ℕ → Time) (t : ℕ) where
         ∙ ap (on (later (at x)) _) j)
 
 -- ---- access
-
--- a position in a stretch, other than its root's, is in the side that the comparison with the root's tells
-pub side-holds : (s : Stretch) (i r : ℕ) → r ≡ s .start + rootPlace (s .pins) - 1 → s .start ≤ i → i < s .start + s .pins → (r ≡ i → ⊥)
-    → (sideOf (ltb r i) s .start ≤ i) × (i < sideOf (ltb r i) s .start + sideOf (ltb r i) s .pins)
-side-holds s i r e lo hi ne =
-    let p = place-in (s .pins) (omega arith) in
-    elim (decLt r i) [
-      | yes h ↦ rw (lt-ltb r i h) (omega arith)
-      | no h ↦ let k : i < r = omega arith in rw (le-ltb r i (omega arith)) (omega arith)
-    ]
 
 module _ (n : ℕ) (time : ℕ → Time) (i : ℕ) where
   pub access-start : accessAnswer n time i ≡ accessFrom n time i 0 1

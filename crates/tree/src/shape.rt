@@ -66,6 +66,23 @@ pub(crate) fn side_of(s: Stretch, place: usize, right: bool) -> Stretch
     }
 }
 
+// The node of rank i. In the full tree of the same height a node with k levels below it has the place (2m + 1) 2^k, counted from 1, where
+// m nodes are before it on its level; every other place is a leaf's. Of the last level's leaves the first ones are here, so places after
+// those have no leaves between them here.
+pub(crate) fn node_of(n: usize, i: usize) -> usize
+    requires { ⌜ (i < n) × (n < 2 ^ 62) ⌝ }
+    ensures { λ r. ⌜ (1 ≤ r) × (r ≤ n) × (rank n r ≡ i) ⌝ }
+{
+    let first = power_of_two(height(n) - 1);
+    let leaves = 2 * (n + 1 - first);
+    let place = if i < leaves {
+        i + 1
+    } else {
+        2 * i + 2 - leaves
+    };
+    (2 * first + place) >> (usize::trailing_zeros(place) + 1)
+}
+
 // The rank of node v, where the node `depth` levels above it has the stretch of `pins` from `start` on.
 fn rank_under(start: usize, pins: usize, v: usize, depth: usize) -> usize
     requires { ⌜ (depth < 64) × (start + pins < 2 ^ 64) × (1 ≤ v / 2 ^ depth) ⌝ }

@@ -7,6 +7,8 @@ use super::nodes::open_at;
 use super::nodes::short_time;
 use super::shape::Stretch;
 use super::shape::child_of;
+use super::shape::height;
+use super::shape::node_of;
 use super::shape::root_place;
 use super::shape::side_of;
 ghost use mathlib.Core.Path.{_≡_};
@@ -27,40 +29,39 @@ pub enum Searched {
     Refused(Refusal),
 }
 
-// The time at position i: from the root down to the node of rank i.
+// The time at position i: from the root down to the node of rank i. The nodes above a node have its first binary digits as their numbers.
 pub fn access(s: &[u8], levels: Levels, i: usize) -> Accessed
     requires { ⌜ Fits levels (now s) ⌝ }
     requires { ⌜ i < levels .pins ⌝ }
     ensures { λ r. ⌜ accessed r ≡ accessAnswer (levels .pins) (timesIn levels (now (s .entry))) i ⌝ }
 {
-    let mut v: usize = 1;
+    let n = levels.pins;
+    let goal = node_of(n, i);
+    let mut below = height(goal);
     let mut depth: usize = 0;
-    let mut here = Stretch {
-        start: 0,
-        pins: levels.pins,
-    };
     let mut time: u32 = 0;
     let mut nodes: usize = 0;
-    loop {
+    while below > 0 {
+        below -= 1;
+        let v = goal >> below;
         nodes += 1;
-        let opened = open_at(s, &levels.ends, &levels.codes, levels.pins, depth, v, time);
-        match opened {
-            Opened::Time(t) => {
-                time = t;
-            }
-            Opened::Refused(r) => {
-                return Accessed::Refused(r);
+        let short = short_time(s, &levels.ends, &levels.codes, n, depth, v, time);
+        if short < LIMIT {
+            time = short as u32;
+        } else {
+            let opened = open_at(s, &levels.ends, &levels.codes, n, depth, v, time);
+            match opened {
+                Opened::Time(t) => {
+                    time = t;
+                }
+                Opened::Refused(r) => {
+                    return Accessed::Refused(r);
+                }
             }
         }
-        let place = root_place(here.pins);
-        let rank = here.start + place - 1;
-        if rank == i {
-            return Accessed::Time(time, nodes);
-        }
-        here = side_of(here, place, rank < i);
-        v = child_of(v, rank < i);
         depth += 1;
     }
+    Accessed::Time(time, nodes)
 }
 
 // The rank of the last node left by its left side, or n: left where a node's time is at or above the target, else right. That is where

@@ -1,59 +1,116 @@
 -- `access` meets its contract.
 use native.Mathlib.Omega.{arith}
-use mathlib.Core.Path.{_≡_, refl, sym, _∙_}
-use Prim.Native.Nat.{_+_, _-_, _≤_, _<_}
-use lib.Dec.{ltb}
+use mathlib.Core.Logic.{⊎-elim}
+use mathlib.Core.Path.{_≡_, refl, sym, ap, ap₂, _∙_}
+use mathlib.Core.List.{_∷_}
+use Prim.Native.Nat.{ℕ, _+_, _-_, _*_, _/_, _^_, _≤_, _<_}
+use native.Mathlib.Nat.{div-one, zero-add}
 use borrow.Author.Needs.{needs}
-use Rattle.tree.specs.Shape.{rank}
-use Rattle.tree.specs.Times.{at, timesIn}
-use Rattle.tree.specs.Walks.{accessAnswer}
-use Rattle.tree.specs.Standing.{Stands, accessFrom}
-use Rattle.tree.proofs.Stretches.{side-in}
-use Rattle.tree.proofs.NodeFetches.{Level}
-use Rattle.tree.proofs.Steps.{stands-root, stands-node, stands-place, stands-rank, stands-level, stands-opened, stands-child, side-holds, access-start, access-end, access-refused, access-step}
+use lib.Pow.{shr-shr, shr-le, shr-lt, pow-pos}
+use Rattle.tree.specs.Shape.{height}
+use Rattle.tree.specs.Levels.{fetchedAt}
+use Rattle.tree.specs.Times.{at, under, timeOpened, known, timesIn}
+use Rattle.tree.specs.Walks.{Answer, found, met, accessAnswer}
+use Rattle.tree.proofs.Heights.{height-bound, height-mono, first-digits}
+use Rattle.tree.proofs.NodeTimes.{time-above, time-step}
+use Rattle.tree.proofs.NodeFetches.{Level, level-fits, pins-bound}
+use Rattle.tree.proofs.Walks.{met-fine, met-refused}
+use Rattle.tree.proofs.Paths.{downTo, downTo-on, access-down}
 use Rattle.tree.proofs.walking.access.Statement.{statement}
 use Rattle.tree.proofs.walking.access.Tie as tie
 
+-- the nodes that are left are those from the root to `goal` on the levels below; the time is that of the last one opened
 abbrev Inv-loop : tie.InvT-loop
-Inv-loop s i levels v₀ depth₀ here₀ time₀ nodes₀ v depth here time nodes =
-    Stands levels s v depth here time × (nodes ≡ depth) × (here .start ≤ i) × (i < here .start + here .pins)
-    × (accessFrom (levels .pins) (timesIn levels s) i nodes v ≡ accessAnswer (levels .pins) (timesIn levels s) i)
+Inv-loop s i levels n goal below₀ depth₀ time₀ nodes₀ below depth time nodes =
+    let read = timesIn levels s in
+    (depth + below ≡ height goal) × (nodes ≡ depth) × (read (goal / 2 ^ below) ≡ at time)
+    × (met read (found (known (read goal)) (height goal)) (downTo goal below) ≡ accessAnswer (levels .pins) read i)
 
 abbrev μ-loop : tie.MeasureT-loop
-μ-loop s i levels v₀ depth₀ here₀ time₀ nodes₀ v depth here time nodes = here .pins
+μ-loop s i levels n goal below₀ depth₀ time₀ nodes₀ below depth time nodes = below
+
+node-of-requires : tie.Need-node-of-requires Inv-loop μ-loop
+node-of-requires c κs = omega (arith, c .before .pre .1, pins-bound (c .before .args .t2) (c .before .args .s .now) (c .before .pre .0))
+
+height-requires : tie.Need-height-requires Inv-loop μ-loop
+height-requires c κs = tt
 
 loop-holds : tie.Need-loop-holds Inv-loop μ-loop
 loop-holds c =
-    let a = c .before .args in
-    (stands-root (a .t2) (a .s .now), refl, omega arith, omega (arith, c .before .pre .1), sym (access-start (a .t2 .pins) (timesIn (a .t2) (a .s .now)) (a .i)))
+    let a = c .before .before .before .args in
+    let g = c .before .node-of in
+    let read = timesIn (a .t2) (a .s .now) in
+    let z : g .result / 2 ^ height (g .result) ≡ 0 = omega (arith, shr-lt {n = g .result} 0 (height (g .result)) (rw zero-add (height-bound (g .result)))) in
+    rw (c .height .ensures) (
+      omega arith,
+      refl,
+      rw z (time-above (fetchedAt (a .t2) (a .s .now))),
+      sym (access-down (a .t2 .pins) (g .result) read (g .ensures .0) (g .ensures .1)) ∙ ap (accessAnswer (a .t2 .pins) read) (g .ensures .2),
+    )
 
--- a stretch that has pins is that of a node
-node-in : (c : tie.At-loop Inv-loop μ-loop) → c .loop .v ≤ c .before .before .args .t2 .pins
-node-in c = stands-node (c .loop .inv .0) (omega arith)
+abbrev goal : tie.In-loop Inv-loop μ-loop → ℕ
+goal c = c .before .before .before .node-of .result
+
+-- the node that is opened
+abbrev node : tie.In-loop Inv-loop μ-loop → ℕ
+node c = goal c / 2 ^ (c .before .loop .below - 1)
+
+-- it is on the way to `goal`
+on-way : (c : tie.In-loop Inv-loop μ-loop) → (2 ^ c .before .loop .depth ≤ node c) × (node c < 2 * 2 ^ c .before .loop .depth) × (node c ≤ c .before .before .before .before .before .args .t2 .pins)
+on-way c =
+    let l = c .before .loop in
+    let g = c .before .before .before .node-of .ensures in
+    let d = first-digits (goal c) (l .depth) (l .below - 1) (g .0) (omega (arith, l .inv .0)) in
+    (d .0, d .1, omega (arith, g .1, shr-le (goal c) (l .below - 1)))
 
 -- its level lies in the bytes
-level : (c : tie.At-loop Inv-loop μ-loop) → Level (c .before .before .args .t2) (c .before .before .args .s .now) (c .loop .depth)
-level c = stands-level (c .loop .inv .0) (c .before .before .pre .0) (node-in c)
+level : (c : tie.In-loop Inv-loop μ-loop) → let a = c .before .before .before .before .before .args in Level (a .t2) (a .s .now) (c .before .loop .depth)
+level c = level-fits (c .before .before .before .before .before .pre .0) (on-way c .0) (on-way c .2)
 
--- its time
-time-is : (c : tie.After-opened Inv-loop μ-loop) → let a = c .before .before .before .before .before .before .before .before .before .before .args in timesIn (a .t2) (a .s .now) (c .before .before .before .before .before .before .before .before .loop .v) ≡ at (c .opened .given .0 .0)
-time-is c = stands-opened (c .before .before .before .before .before .before .before .before .loop .inv .0) (c .before .before .open-at .ensures) (c .opened .given .1)
+-- its time, by its parent's
+time-by : (c : tie.In-loop Inv-loop μ-loop) → let a = c .before .before .before .before .before .args in
+    timesIn (a .t2) (a .s .now) (node c) ≡ under (node c) (at (c .before .loop .time)) (fetchedAt (a .t2) (a .s .now) (node c))
+time-by c =
+    let a = c .before .before .before .before .before .args in
+    let l = c .before .loop in
+    let e : l .below - 1 + 1 ≡ l .below = omega arith in
+    let half : node c / 2 ≡ goal c / 2 ^ l .below = shr-shr (goal c) (l .below - 1) 1 ∙ rw e in
+    time-step (fetchedAt (a .t2) (a .s .now)) (node c) (omega (arith, on-way c, pow-pos (l .depth))) ∙ rw (half, l .inv .2)
 
--- its place is in its stretch, and that in the list
-placed : (c : tie.After-root-place Inv-loop μ-loop) → let here = c .before .before .before .before .before .before .before .before .before .before .loop .here in
-    (1 ≤ c .root-place .result) × (c .root-place .result ≤ here .pins) × (here .start + here .pins ≤ c .before .before .before .before .before .before .before .before .before .before .before .before .args .t2 .pins)
-placed c =
-    let w = c .before .before .before .before .before .before .before .before .before .before .loop .inv .0 in
-    let p = rw (← (c .root-place .ensures)) at (stands-place w (node-in (c .before .before .before .before .before .before .before .before .before .before))) in
-    (p .0, p .1, w .inside)
+time-is : (c : tie.Joined1 Inv-loop μ-loop) → let a = c .before .before .before .before .before .before .before .before .before .before .before .before .args in timesIn (a .t2) (a .s .now) (node (c .before .before .before .before .before .before .before)) ≡ at (c .if1 .time)
+time-is c =
+    ⊎-elim
+    (λ w. rw (w .1) (time-by (c .before .before .before .before .before .before .before) ∙ sym (c .before .short-time .ensures (w .0 .taken))))
+    (λ w. rw (w .10) (time-by (c .before .before .before .before .before .before .before) ∙ sym (w .6 .ensures) ∙ ap timeOpened (w .8 .given .1)))
+    (c .if1 .came)
+
+-- what is left of the answer
+abbrev answer : tie.In-loop Inv-loop μ-loop → Answer
+answer c = let a = c .before .before .before .before .before .args in found (known (timesIn (a .t2) (a .s .now) (goal c))) (height (goal c))
+
+on : (c : tie.In-loop Inv-loop μ-loop) → let a = c .before .before .before .before .before .args in let read = timesIn (a .t2) (a .s .now) in
+    met read (answer c) (node c ∷ downTo (goal c) (c .before .loop .below - 1)) ≡ accessAnswer (a .t2 .pins) read (a .i)
+on c =
+    let a = c .before .before .before .before .before .args in
+    sym (ap (met (timesIn (a .t2) (a .s .now)) (answer c)) (downTo-on (goal c) (c .before .loop .below) (omega arith))) ∙ c .before .loop .inv .3
+
+sub-below : tie.Need-sub-below Inv-loop μ-loop
+sub-below c = search needs
+
+shr-v : tie.Need-shr-v Inv-loop μ-loop
+shr-v c = omega (arith, c .before .loop .inv .0, height-mono (goal c) (c .before .before .before .before .before .args .t2 .pins) (c .before .before .before .node-of .ensures .1), c .before .before .before .before .before .pre .0 .height-fits)
 
 add-nodes : tie.Need-add-nodes Inv-loop μ-loop
 add-nodes c = omega (arith, level c)
 
+short-time-requires : tie.Need-short-time-requires Inv-loop μ-loop
+short-time-requires c κs = (c .before .before .before .before .before .before .before .before .before .before .pre .0, ((search needs, search needs), on-way (c .before .before .before .before .before)))
+
+cast-time : tie.Need-cast-time Inv-loop μ-loop
+cast-time c = search needs
+
 open-at-requires : tie.Need-open-at-requires Inv-loop μ-loop
-open-at-requires c κs =
-    let w = c .before .before .before .before .before .loop .inv .0 in
-    (c .before .before .before .before .before .before .before .pre .0, ((search needs, search needs), (w .low, w .high, node-in (c .before .before .before .before .before))))
+open-at-requires c κs = (c .before .before .before .before .before .before .before .before .before .before .before .before .before .before .before .before .before .pre .0, ((search needs, search needs), on-way (c .before .before .before .before .before .before .before .before .before .before .before .before)))
 
 enum-known-opened : tie.Need-enum-known-opened Inv-loop μ-loop
 enum-known-opened c = search needs
@@ -63,63 +120,37 @@ enum-known-opened-2 c = search needs
 
 returns : tie.Need-returns Inv-loop μ-loop
 returns c =
-    let a = c .before .before .before .before .before .before .before .before .before .before .before .args in
-    let l = c .before .before .before .before .before .before .before .before .before .loop in
-    let e = stands-opened (l .inv .0) (c .before .before .before .open-at .ensures) (c .before .opened2 .given .1) in
-    sym (access-refused (a .t2 .pins) (timesIn (a .t2) (a .s .now)) (a .i) (l .nodes) (l .v) _ _ (l .inv .0 .one) (node-in (c .before .before .before .before .before .before .before .before .before)) e) ∙ l .inv .4
-
-root-place-requires : tie.Need-root-place-requires Inv-loop μ-loop
-root-place-requires c κs = tt
-
-add-rank : tie.Need-add-rank Inv-loop μ-loop
-add-rank c = omega (arith, placed (c .before))
-
-sub-rank : tie.Need-sub-rank Inv-loop μ-loop
-sub-rank c = omega (arith, placed (c .before))
-
-returns-2 : tie.Need-returns-2 Inv-loop μ-loop
-returns-2 c =
-    let a = c .before .before .before .before .before .before .before .before .before .before .before .before .before .before .args in
-    let l = c .before .before .before .before .before .before .before .before .before .before .before .before .loop in
-    let e = time-is (c .before .before .before .before) in
-    let r : rank (a .t2 .pins) (l .v) ≡ a .i = stands-rank (l .inv .0) ∙ omega arith in
-    sym (access-end (a .t2 .pins) (timesIn (a .t2) (a .s .now)) (a .i) (l .nodes) (l .v) (c .before .before .before .before .opened .given .0 .0) (l .inv .0 .one) (node-in (c .before .before .before .before .before .before .before .before .before .before .before .before)) e r) ∙ l .inv .4
-
-side-of-requires : tie.Need-side-of-requires Inv-loop μ-loop
-side-of-requires c κs = omega (arith, placed (c .before .before))
-
-child-of-requires : tie.Need-child-of-requires Inv-loop μ-loop
-child-of-requires c κs = omega (arith, level (c .before .before .before .before .before .before .before .before .before .before .before .before .before), node-in (c .before .before .before .before .before .before .before .before .before .before .before .before .before))
+    let i = c .before .before .before .before .before .before .before .before .before .before .before .before .before .before .before .before in
+    let a = c .before .before .before .before .before .before .before .before .before .before .before .before .before .before .before .before .before .before .before .before .before .args in
+    let e = time-by i ∙ sym (c .before .before .before .open-at .ensures) ∙ ap timeOpened (c .before .opened2 .given .1) in
+    sym (met-refused (timesIn (a .t2) (a .s .now)) (answer i) (node i) _ _ _ e) ∙ on i
 
 add-depth : tie.Need-add-depth Inv-loop μ-loop
-add-depth c = omega (arith, level (c .before .before .before .before .before .before .before .before .before .before .before .before .before .before))
+add-depth c = omega (arith, level (c .before .before .before .before .before .before .before))
 
 loop-less : tie.Need-loop-less Inv-loop μ-loop
-loop-less c =
-    let a = c .before .before .before .before .before .before .before .before .before .before .before .before .before .before .before .before .args in
-    let l = c .before .before .before .before .before .before .before .before .before .before .before .before .before .before .loop in
-    rw (c .before .side-of .ensures) (side-in (ltb (l .here .start + c .before .before .before .before .root-place .result - 1) (a .i)) (l .here) (omega arith) .0)
+loop-less c = omega arith
 
 loop-again : tie.Need-loop-again Inv-loop μ-loop
 loop-again c =
-    let a = c .before .before .before .before .before .before .before .before .before .before .before .before .before .before .before .before .args in
-    let l = c .before .before .before .before .before .before .before .before .before .before .before .before .before .before .loop in
-    let w = l .inv .0 in
-    let n = a .t2 .pins in
-    let time = timesIn (a .t2) (a .s .now) in
-    let x = c .before .before .before .before .before .before .opened .given .0 .0 in
-    let e = time-is (c .before .before .before .before .before .before) in
-    let r : l .here .start + c .before .before .before .before .root-place .result - 1 ≡ rank n (l .v) = sym (stands-rank w ∙ omega arith) in
-    let ne : rank n (l .v) ≡ a .i → ⊥ = λ z. c .before .before .if1 .left (r ∙ z) in
-    let k = node-in (c .before .before .before .before .before .before .before .before .before .before .before .before .before .before) in
-    let h = side-holds (l .here) (a .i) (rank n (l .v)) (stands-rank w) (l .inv .2) (l .inv .3) ne in
-    rw (c .child-of .ensures, c .before .side-of .ensures, r) (
-      stands-child w (ltb (rank n (l .v)) (a .i)) x k e,
+    let i = c .before .before .before .before .before .before .before in
+    let a = c .before .before .before .before .before .before .before .before .before .before .before .before .args in (
+      omega (arith, c .before .before .before .before .before .before .before .before .loop .inv .0),
       omega arith,
-      h .0,
-      h .1,
-      sym (access-step n time (a .i) (l .nodes) (l .v) x (l .inv .0 .one) k e ne) ∙ l .inv .4,
+      time-is c,
+      sym (met-fine (timesIn (a .t2) (a .s .now)) (answer i) (node i) (c .if1 .time) _ (time-is c)) ∙ on i,
     )
+
+returns-2 : tie.Need-returns-2 Inv-loop μ-loop
+unfolding met downTo
+returns-2 c =
+    let a = c .before .before .before .before .before .args in
+    let l = c .before .loop in
+    let g = c .before .before .before .node-of .result in
+    let read = timesIn (a .t2) (a .s .now) in
+    let z : l .below ≡ 0 = omega arith in
+    let t : read g ≡ at (l .time) = ap read (sym (div-one g)) ∙ rw z at (l .inv .2) in
+    ap₂ found (sym (ap known t)) (omega (arith, l .inv .0)) ∙ rw z at (l .inv .3)
 
 pub access-spec : {M : Type 1} → statement M
 access-spec =
@@ -127,18 +158,19 @@ access-spec =
     (tie.spec
     Inv-loop
     μ-loop
+    node-of-requires
+    height-requires
     loop-holds
+    sub-below
+    shr-v
     add-nodes
+    short-time-requires
+    cast-time
     open-at-requires
     enum-known-opened
     enum-known-opened-2
     returns
-    root-place-requires
-    add-rank
-    sub-rank
-    returns-2
-    side-of-requires
-    child-of-requires
     add-depth
     loop-less
-    loop-again)
+    loop-again
+    returns-2)
