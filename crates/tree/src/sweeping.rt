@@ -163,7 +163,8 @@ fn sweep_fetching(answers: &mut [u32], s: &[u8], levels: Levels, targets: &[u32]
     )
 }
 
-// As `sweep`, with room for the times of all nodes, which are found first. Where they are not known at once, each node has its fetch.
+// As `sweep`, with room for the times of all nodes, which are found first. Where they are not known at once none is, and each node has its
+// fetch.
 fn sweep_in(
     answers: &mut [u32],
     known: &mut [u32],
@@ -176,18 +177,19 @@ fn sweep_in(
     ensures { λ r. ⌜ swept r ≡ sweep (levels .pins) (timesIn levels (now (s .entry))) (now (targets .entry)) .answer ⌝ }
     ensures { λ r. ⌜ now (answers .exit) ≡ replaced (now (answers .entry)) 0 (sweep (levels .pins) (timesIn levels (now (s .entry))) (now (targets .entry)) .positions) ⌝ }
 {
+    let mut count: usize = 0;
     if known_times(known, s, levels) {
-        return sweep_by(
-            answers,
-            known,
-            s,
-            &levels.ends,
-            &levels.codes,
-            levels.pins,
-            targets,
-        );
+        count = known.len();
     }
-    sweep_fetching(answers, s, levels, targets)
+    sweep_by(
+        answers,
+        &known[..count],
+        s,
+        &levels.ends,
+        &levels.codes,
+        levels.pins,
+        targets,
+    )
 }
 
 // As `sweep_in`, for at most 1,023 pins, so that a short list need not clear room for the longest one.
@@ -214,19 +216,28 @@ fn sweep_long(answers: &mut [u32], s: &[u8], levels: Levels, targets: &[u32]) ->
     sweep_in(answers, &mut known[..n], s, levels, targets)
 }
 
-// Whether there are so many targets that it is faster to find the times of all nodes first. A fetch from a chunked level counts bits
-// of the whole level, so fewer targets are enough where the lowest level, with half of the nodes, is one.
-fn are_many(targets: usize, levels: Levels) -> bool
+// As `sweep`, with the times of all nodes found first.
+fn sweep_many(answers: &mut [u32], s: &[u8], levels: Levels, targets: &[u32]) -> Swept
+    requires { ⌜ Fits levels (now s) ⌝ }
+    requires { ⌜ length (now targets) ≤ length (now answers) ⌝ }
+    ensures { λ r. ⌜ swept r ≡ sweep (levels .pins) (timesIn levels (now (s .entry))) (now (targets .entry)) .answer ⌝ }
+    ensures { λ r. ⌜ now (answers .exit) ≡ replaced (now (answers .entry)) 0 (sweep (levels .pins) (timesIn levels (now (s .entry))) (now (targets .entry)) .positions) ⌝ }
+{
+    if levels.pins <= 1023 {
+        return sweep_short(answers, s, levels, targets);
+    }
+    sweep_long(answers, s, levels, targets)
+}
+
+// Whether the lowest level, with half of the nodes, is chunked, so that each fetch from it counts bits of the whole level.
+fn is_lowest_chunked(levels: Levels) -> bool
     requires { ⌜ height (levels .pins) ≤ 16 ⌝ }
 {
     let h = height(levels.pins);
     if h == 0 {
         return false;
     }
-    if levels.codes[h - 1] > 32 {
-        return targets >= levels.pins / 128;
-    }
-    targets >= levels.pins / 16
+    levels.codes[h - 1] > 32
 }
 
 // Writes the position of each target to the front of `answers`, up to the first target that is refused.
@@ -236,11 +247,14 @@ pub fn sweep(answers: &mut [u32], s: &[u8], levels: Levels, targets: &[u32]) -> 
     ensures { λ r. ⌜ swept r ≡ sweep (levels .pins) (timesIn levels (now (s .entry))) (now (targets .entry)) .answer ⌝ }
     ensures { λ r. ⌜ now (answers .exit) ≡ replaced (now (answers .entry)) 0 (sweep (levels .pins) (timesIn levels (now (s .entry))) (now (targets .entry)) .positions) ⌝ }
 {
-    if !are_many(targets.len(), levels) {
-        return sweep_fetching(answers, s, levels, targets);
+    // With many targets it is faster to find the times of all nodes first, and with fewer where fetches are slow. There are two calls, since
+    // one would be compiled into this function, and the room for all times onto the stack of each sweep.
+    if is_lowest_chunked(levels) {
+        if targets.len() >= levels.pins / 128 {
+            return sweep_many(answers, s, levels, targets);
+        }
+    } else if targets.len() >= levels.pins / 16 {
+        return sweep_many(answers, s, levels, targets);
     }
-    if levels.pins <= 1023 {
-        return sweep_short(answers, s, levels, targets);
-    }
-    sweep_long(answers, s, levels, targets)
+    sweep_fetching(answers, s, levels, targets)
 }
