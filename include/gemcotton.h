@@ -93,7 +93,7 @@ struct gemcotton_answer gemcotton_sweep(uint32_t *answers, size_t answers_length
                                         const uint32_t *targets, size_t targets_length);
 
 /* Check, unpack and repeat read all positions and count no nodes. For each position from 0 on they give access's refusal, then
- * 11 where its time is lower than the one before. A call takes under 1.25 MiB of the stack, however short the
+ * 11 where its time is lower than the one before. A call takes under 1 MiB of the stack, however short the
  * strip. */
 
 /* Gives the pin count of an accepted strip. Refused for any other: in opening, at the first position with access's refusal or

@@ -60,7 +60,7 @@
 //!
 //! After opening, [`check`], [`unpack`] and [`repeat`] read the positions from 0 on. At each they
 //! are refused as [`access`] is there, then by [`TimesFall`](Refusal::TimesFall) where the time
-//! is lower than the one before. A call takes under 1.25 MiB of the stack, however short the
+//! is lower than the one before. A call takes under 1 MiB of the stack, however short the
 //! strip.
 
 #![warn(missing_docs)]
