@@ -1,13 +1,13 @@
 -- The bytes of an open strip, put together again from its pin count, its levels' codes and their parts: where these are the image's, so are the bytes.
 use mathlib.Core.Path.{_≡_, refl, sym, ap, _∙_}
-use mathlib.Core.Bool.{Bool, true, false, not, _&&_, and-eq-true-iff}
+use mathlib.Core.Bool.{true, _&&_, and-eq-true-iff}
 use mathlib.Core.List.{List, [], _∷_, _++_, append-assoc}
 use Prim.Native.Nat.{ℕ, zero, suc, _+_, _-_, _*_, _/_, _%_, _^_, _≤_, _<_}
-use native.Mathlib.Nat.{add-zero, zero-add, add-sub-cancel-left, mul-suc}
+use native.Mathlib.Nat.{add-zero, add-sub-cancel-left}
 use native.Mathlib.Numerals.{add-one}
 use native.Mathlib.Omega.{arith}
-use lib.Dec.{eqb, ltb}
-use lib.ListN.{length, take, drop, getD, length-take, length-drop, take-append-drop}
+use lib.Dec.{eqb}
+use lib.ListN.{length, take, drop, getD, length-drop, take-append-drop}
 use lib.Seq.{take-add, take-all, drop-drop, getD-drop, length-take-le}
 use borrow.Author.Tests.{ltb-false, eqb-true, not-false}
 use Rattle.codes.specs.Codes.{part, Within}
@@ -20,11 +20,11 @@ use Rattle.tree.specs.Levels.{codeOf, partOf}
 use Rattle.tree.specs.Listing.{Stop, nowhere, accesses, timesFrom, stopFrom, endOf}
 use Rattle.tree.specs.Chosen.{allChosen}
 use Rattle.tree.proofs.Promises.{stored-levels, listing-finds, chosen-stored}
-use Rattle.strip.specs.Outcomes.{gives, Test, test, verdict}
-use Rattle.strip.specs.Layout.{mark, version, twoAt, fourAt, header, pinsOf, entry, codeAt, lengthAt, partsStart, endAfter}
+use Rattle.strip.specs.Outcomes.{gives, Test, verdict}
+use Rattle.strip.specs.Layout.{version, twoAt, fourAt, header, pinsOf, entry, codeAt, lengthAt, partsStart, endAfter}
 use Rattle.strip.specs.Image.{valuesAt, codeFor, partFor, lengthFor, entryFor, joined, stripOf, image}
 use Rattle.strip.specs.Calls.{listIn}
-use Rattle.strip.specs.Opening.{hasMark, headerTests, isRefused, codeTests, lengthByEntries, lengthTest, levelTests, levelsIn, opening}
+use Rattle.strip.specs.Opening.{hasMark, headerTests, codeTests, lengthByEntries, lengthTest, levelTests, levelsIn, opening}
 use Rattle.strip.proofs.Layouts.{laid-at, laid-pins, end-next, end-start, end-mono}
 use Rattle.strip.proofs.Verdicts.{verdict-passed, verdict-gives}
 

@@ -1,20 +1,19 @@
 -- A level merged with the list of the nodes above it, node by node from the last one on, and the ranks that its nodes and those above then have.
 use mathlib.Core.Path.{_≡_, refl, sym, ap, _∙_}
 use mathlib.Core.List.{List}
-use Prim.Native.Nat.{ℕ, zero, suc, _+_, _-_, _*_, _/_, _%_, _^_, _≤_, _<_, min}
+use Prim.Native.Nat.{ℕ, suc, _+_, _-_, _*_, _/_, _%_, _^_, _≤_, _<_, min}
 use native.Mathlib.Nat.{pow-succ'}
 use native.Mathlib.Decide.{decLt, ℕ-discrete}
 use native.Mathlib.Omega.{arith}
 use lib.ListN.{length, take, drop, getD, set, length-set, length-drop}
 use lib.Seq.{length-take-le, getD-take, getD-drop, getD-set-same, getD-set-other}
-use lib.Dec.{eqb}
 use lib.Pow.{pow-pos}
 use borrow.Author.Tests.{lt-ltb, le-ltb, eq-eqb, ne-eqb}
 use Rattle.codes.specs.Fetch.{value}
 use Rattle.tree.specs.declared.nodes.Levels.{Levels}
 use Rattle.tree.specs.Shape.{rank}
 use Rattle.tree.specs.Levels.{fetchedAt}
-use Rattle.tree.specs.Times.{at, under, timesIn}
+use Rattle.tree.specs.Times.{at, under}
 use Rattle.tree.specs.Known.{KnownValues}
 use Rattle.tree.specs.Merged.{KnownRanks, MergedFrom, Merges, AllMerged}
 use Rattle.tree.proofs.NodeTimes.{time-step}

@@ -1,19 +1,19 @@
 -- Where every position has a time, the nodes have the times of that list at their ranks, and what is fetched for them is what the list's tree stores.
 use mathlib.Core.Path.{_≡_, refl, sym, ap, subst, _∙_}
-use mathlib.Core.Bool.{Bool, true, false, cond, _&&_, and-eq-true-iff, false≢true}
+use mathlib.Core.Bool.{true, false, cond, and-eq-true-iff, false≢true}
 use mathlib.Core.List.{List, [], _∷_}
-use Prim.Native.Nat.{ℕ, zero, suc, _+_, _-_, _/_, _%_, _^_, _≤_, _<_, min}
+use Prim.Native.Nat.{ℕ, zero, suc, _+_, _-_, _/_, _%_, _^_, _≤_, _<_}
 use native.Mathlib.Nat.{zero-add, add-zero}
 use native.Mathlib.Decide.{decLt, ℕ-discrete}
 use native.Mathlib.Omega.{arith}
-use lib.Dec.{eqb, ltb}
-use lib.ListN.{length, take, drop, getD, length-take, length-drop}
+use lib.Dec.{ltb}
+use lib.ListN.{length, drop, getD, length-take, length-drop}
 use lib.Seq.{ext-getD, getD-take, getD-drop}
 use lib.Pow.{pow-pos}
 use borrow.Author.Tests.{lt-ltb, le-ltb, eq-eqb, ne-eqb}
 use Rattle.codes.specs.Codes.{part}
-use Rattle.codes.specs.Choice.{chosen, isChosen}
-use Rattle.codes.specs.Fetch.{Fetched, value, outside, fetched}
+use Rattle.codes.specs.Choice.{chosen}
+use Rattle.codes.specs.Fetch.{Fetched, value, outside}
 use Rattle.codes.specs.Decode.{Decoded, all, undecoded}
 use Rattle.codes.proofs.Promises.{decode-fetches, chosen-parts}
 use Rattle.tree.specs.declared.nodes.Levels.{Levels}
@@ -21,9 +21,9 @@ use Rattle.tree.specs.Shape.{height, rank}
 use Rattle.tree.specs.Stored.{timeOf, timeAbove, difference, stored, storedValues}
 use Rattle.tree.specs.Levels.{firstOf, countOf, codeOf, partOf, levelValues, fetchedAt}
 use Rattle.tree.specs.Times.{Time, at, refused, under, known, timesIn}
-use Rattle.tree.specs.Walks.{Answer, found, stopped, unless, met, toward, lastOf, accessAnswer, fromRoot}
-use Rattle.tree.specs.Listing.{Stop, nowhere, at as stop-at, accesses, timeThen, timesFrom, stopOr, stopFrom}
-use Rattle.tree.specs.Chosen.{chosenBy, decodedAt, levelChosen, chosenTo, allChosen}
+use Rattle.tree.specs.Walks.{Answer, found, stopped, unless, met, toward, lastOf, accessAnswer}
+use Rattle.tree.specs.Listing.{nowhere, accesses, timeThen, timesFrom, stopOr, stopFrom}
+use Rattle.tree.specs.Chosen.{chosenBy, decodedAt, levelChosen, chosenTo}
 use Rattle.tree.specs.Promises.{ChosenStored}
 use Rattle.tree.proofs.Heights.{height-is, height-above, level-starts}
 use Rattle.tree.proofs.NodeTimes.{time-above, time-step}
@@ -76,7 +76,7 @@ module _ (levels : Levels) (s : List ℕ) (whole : nowhere ≡ stopFrom (accesse
   list = timesFrom (accesses levels s) (levels .pins) 0
 
   list-length : length list ≡ levels .pins
-  list-length = rw zero-add at (times-end (accesses levels s) (levels .pins) 0) ∙ rw (← whole) (zero-add (levels .pins))
+  list-length = rw (zero-add (length list)) at (times-end (accesses levels s) (levels .pins) 0) ∙ rw (← whole) (zero-add (levels .pins))
 
   node-time : (v : ℕ) → 1 ≤ v → v ≤ levels .pins → timesIn levels s v ≡ at (timeOf list v)
   unfolding timeOf accessAnswer

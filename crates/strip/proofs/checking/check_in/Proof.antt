@@ -8,11 +8,6 @@ use Rattle.strip.proofs.OpenImages.{open-image}
 use borrow.Author.Needs.{needs}
 use Rattle.strip.proofs.checking.check_in.Statement.{statement}
 use Rattle.strip.proofs.checking.check_in.Tie as tie
-use Rattle.strip.proofs.checking.check_in.Reads as reads
-use Rattle.strip.proofs.checking.check_in.Lts as lts
-use Rattle.strip.proofs.checking.check_list.Reads as check-list-reads
-use Rattle.strip.proofs.checking.check_refused.Reads as check-refused-reads
-use Rattle.tree.proofs.list_compared.Reads as list-compared-reads
 
 list-compared-requires : tie.Need-list-compared-requires
 list-compared-requires c κs = search needs

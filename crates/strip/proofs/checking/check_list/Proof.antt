@@ -7,10 +7,6 @@ use Rattle.strip.proofs.Same.{same-itself}
 use borrow.Author.Needs.{needs}
 use Rattle.strip.proofs.checking.check_list.Statement.{statement}
 use Rattle.strip.proofs.checking.check_list.Tie as tie
-use Rattle.strip.proofs.checking.check_list.Reads as reads
-use Rattle.strip.proofs.checking.check_list.Lts as lts
-use Rattle.strip.proofs.checking.is_image.Reads as is-image-reads
-use Rattle.strip.proofs.lists.first_lower.Reads as first-lower-reads
 
 first-lower-requires : tie.Need-first-lower-requires
 first-lower-requires c κs = search needs

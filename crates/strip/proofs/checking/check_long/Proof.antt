@@ -6,9 +6,6 @@ use Rattle.tree.proofs.Buffers.{new-clear}
 use borrow.Author.Needs.{needs}
 use Rattle.strip.proofs.checking.check_long.Statement.{statement}
 use Rattle.strip.proofs.checking.check_long.Tie as tie
-use Rattle.strip.proofs.checking.check_long.Reads as reads
-use Rattle.strip.proofs.checking.check_long.Lts as lts
-use Rattle.strip.proofs.checking.check_in.Reads as check-in-reads
 
 slice-aggregate-check-in : tie.Need-slice-aggregate-check-in
 slice-aggregate-check-in c = search needs

@@ -1,12 +1,8 @@
 -- `check_short` meets its contract.
-use native.Mathlib.Omega.{arith}
 use Rattle.tree.proofs.Buffers.{new-clear}
 use borrow.Author.Needs.{needs}
 use Rattle.strip.proofs.checking.check_short.Statement.{statement}
 use Rattle.strip.proofs.checking.check_short.Tie as tie
-use Rattle.strip.proofs.checking.check_short.Reads as reads
-use Rattle.strip.proofs.checking.check_short.Lts as lts
-use Rattle.strip.proofs.checking.check_in.Reads as check-in-reads
 
 slice-aggregate-check-in : tie.Need-slice-aggregate-check-in
 slice-aggregate-check-in c = search needs

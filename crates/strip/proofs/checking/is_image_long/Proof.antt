@@ -1,13 +1,9 @@
 -- `is_image_long` meets its contract.
-use native.Mathlib.Omega.{arith}
 use lib.ListN.{length}
 use Rattle.strip.proofs.Checks.{any-room}
 use borrow.Author.Needs.{needs}
 use Rattle.strip.proofs.checking.is_image_long.Statement.{statement}
 use Rattle.strip.proofs.checking.is_image_long.Tie as tie
-use Rattle.strip.proofs.checking.is_image_long.Reads as reads
-use Rattle.strip.proofs.checking.is_image_long.Lts as lts
-use Rattle.strip.proofs.checking.is_image_in.Reads as is-image-in-reads
 
 slice-aggregate-is-image-in : tie.Need-slice-aggregate-is-image-in
 slice-aggregate-is-image-in c = search needs

@@ -5,9 +5,6 @@ use Rattle.strip.proofs.Checks.{short-room}
 use borrow.Author.Needs.{needs}
 use Rattle.strip.proofs.checking.is_image_short.Statement.{statement}
 use Rattle.strip.proofs.checking.is_image_short.Tie as tie
-use Rattle.strip.proofs.checking.is_image_short.Reads as reads
-use Rattle.strip.proofs.checking.is_image_short.Lts as lts
-use Rattle.strip.proofs.checking.is_image_in.Reads as is-image-in-reads
 
 slice-aggregate-is-image-in : tie.Need-slice-aggregate-is-image-in
 slice-aggregate-is-image-in c = search needs

@@ -1,15 +1,10 @@
 -- `unpack_in` meets its contract.
-use native.Mathlib.Omega.{arith}
 use mathlib.Core.Path.{sym, ap, _∙_}
 use Rattle.strip.specs.Calls.{checked}
 use Rattle.strip.proofs.Checks.{list-front, accepted-count, unpack-refused, unpack-listed}
 use borrow.Author.Needs.{needs}
 use Rattle.strip.proofs.checking.unpack_in.Statement.{statement}
 use Rattle.strip.proofs.checking.unpack_in.Tie as tie
-use Rattle.strip.proofs.checking.unpack_in.Reads as reads
-use Rattle.strip.proofs.checking.unpack_in.Lts as lts
-use Rattle.strip.proofs.checking.check_in.Reads as check-in-reads
-use Rattle.strip.proofs.checking.put_list.Reads as put-list-reads
 
 check-in-requires : tie.Need-check-in-requires
 check-in-requires c κs = search needs

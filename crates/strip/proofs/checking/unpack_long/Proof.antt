@@ -6,9 +6,6 @@ use Rattle.tree.proofs.Buffers.{new-clear}
 use borrow.Author.Needs.{needs}
 use Rattle.strip.proofs.checking.unpack_long.Statement.{statement}
 use Rattle.strip.proofs.checking.unpack_long.Tie as tie
-use Rattle.strip.proofs.checking.unpack_long.Reads as reads
-use Rattle.strip.proofs.checking.unpack_long.Lts as lts
-use Rattle.strip.proofs.checking.unpack_in.Reads as unpack-in-reads
 
 slice-aggregate-unpack-in : tie.Need-slice-aggregate-unpack-in
 slice-aggregate-unpack-in c = search needs

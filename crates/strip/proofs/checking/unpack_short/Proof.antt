@@ -1,12 +1,8 @@
 -- `unpack_short` meets its contract.
-use native.Mathlib.Omega.{arith}
 use Rattle.tree.proofs.Buffers.{new-clear}
 use borrow.Author.Needs.{needs}
 use Rattle.strip.proofs.checking.unpack_short.Statement.{statement}
 use Rattle.strip.proofs.checking.unpack_short.Tie as tie
-use Rattle.strip.proofs.checking.unpack_short.Reads as reads
-use Rattle.strip.proofs.checking.unpack_short.Lts as lts
-use Rattle.strip.proofs.checking.unpack_in.Reads as unpack-in-reads
 
 slice-aggregate-unpack-in : tie.Need-slice-aggregate-unpack-in
 slice-aggregate-unpack-in c = search needs

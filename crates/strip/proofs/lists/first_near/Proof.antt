@@ -1,14 +1,9 @@
 -- `first_near` meets its contract.
-use native.Mathlib.Omega.{arith}
 use mathlib.Core.Path.{_∙_}
 use Rattle.strip.proofs.Gaps.{lower-near}
 use borrow.Author.Needs.{needs}
 use Rattle.strip.proofs.lists.first_near.Statement.{statement}
 use Rattle.strip.proofs.lists.first_near.Tie as tie
-use Rattle.strip.proofs.lists.first_near.Reads as reads
-use Rattle.strip.proofs.lists.first_near.Lts as lts
-use Rattle.strip.proofs.lists.first_lower.Reads as first-lower-reads
-use Rattle.strip.proofs.lists.near_or_end.Reads as near-or-end-reads
 
 first-lower-requires : tie.Need-first-lower-requires
 first-lower-requires c κs = search needs

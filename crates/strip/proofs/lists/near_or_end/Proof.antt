@@ -1,13 +1,8 @@
 -- `near_or_end` meets its contract.
-use native.Mathlib.Omega.{arith}
 use mathlib.Core.Path.{sym}
 use borrow.Author.Needs.{needs}
 use Rattle.strip.proofs.lists.near_or_end.Statement.{statement}
 use Rattle.strip.proofs.lists.near_or_end.Tie as tie
-use Rattle.strip.proofs.lists.near_or_end.Reads as reads
-use Rattle.strip.proofs.lists.near_or_end.Lts as lts
-use Rattle.strip.proofs.lists.near_from_start.Reads as near-from-start-reads
-use Rattle.strip.proofs.lists.none_near.Reads as none-near-reads
 
 none-near-requires : tie.Need-none-near-requires
 none-near-requires c κs = search needs

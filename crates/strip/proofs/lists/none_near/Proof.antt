@@ -1,17 +1,14 @@
 -- `none_near` meets its contract.
 use native.Mathlib.Omega.{arith}
 use mathlib.Core.Path.{_≡_}
-use Prim.Native.Nat.{suc, _+_, _-_, _≤_, _<_, max}
-use lib.ListN.{drop, getD}
+use Prim.Native.Nat.{suc, _+_, _-_, _≤_, max}
+use lib.ListN.{drop}
 use lib.Bits.{or-add-and, and-le-l, and-le-r}
 use borrow.Author.Tests.{eqb-true}
 use Rattle.strip.specs.Read.{firstNear}
 use Rattle.strip.proofs.Gaps.{gap-later, gap-end}
 use Rattle.strip.proofs.lists.none_near.Statement.{statement}
 use Rattle.strip.proofs.lists.none_near.Tie as tie
-use Rattle.strip.proofs.lists.none_near.Reads as reads
-use Rattle.strip.proofs.lists.none_near.Lts as lts
-use Rattle.strip.proofs.lists.near_bit.Reads as near-bit-reads
 
 abbrev Inv-loop : tie.InvT-loop
 Inv-loop times r n any₀ i₀ any i = (1 ≤ i) × (i ≤ max n 1) × (any ≡ 0 → firstNear r times ≡ i - 1 + firstNear r (drop (i - 1) times))

@@ -1,12 +1,8 @@
 -- `repeat_short` meets its contract.
-use native.Mathlib.Omega.{arith}
 use Rattle.tree.proofs.Buffers.{new-clear}
 use borrow.Author.Needs.{needs}
 use Rattle.strip.proofs.repeating.repeat_short.Statement.{statement}
 use Rattle.strip.proofs.repeating.repeat_short.Tie as tie
-use Rattle.strip.proofs.repeating.repeat_short.Reads as reads
-use Rattle.strip.proofs.repeating.repeat_short.Lts as lts
-use Rattle.strip.proofs.repeating.repeat_in.Reads as repeat-in-reads
 
 slice-aggregate-repeat-in : tie.Need-slice-aggregate-repeat-in
 slice-aggregate-repeat-in c = search needs

@@ -1,5 +1,4 @@
 -- `list_in` meets its contract.
-use native.Mathlib.Omega.{arith}
 use mathlib.Core.Path.{_≡_, sym, _∙_}
 use Prim.Native.Nat.{_≤_}
 use lib.ListN.{length, take}
@@ -11,11 +10,6 @@ use Rattle.tree.proofs.Listings.{ranks-known}
 use borrow.Author.Needs.{needs}
 use Rattle.tree.proofs.listing.list_in.Statement.{statement}
 use Rattle.tree.proofs.listing.list_in.Tie as tie
-use Rattle.tree.proofs.listing.list_in.Reads as reads
-use Rattle.tree.proofs.listing.list_in.Lts as lts
-use Rattle.codes.proofs.clear.Reads as clear-reads
-use Rattle.tree.proofs.listing.list_levels.Reads as list-levels-reads
-use Rattle.tree.proofs.listing.list_under.Reads as list-under-reads
 
 -- there is an entry for each pin
 front : (c : tie.Start) → length (take (c .args .levels .pins) (c .args .times .now)) ≡ c .args .levels .pins

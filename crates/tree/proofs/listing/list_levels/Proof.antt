@@ -8,10 +8,6 @@ use Rattle.tree.proofs.NodeFetches.{pins-bound}
 use borrow.Author.Needs.{needs}
 use Rattle.tree.proofs.listing.list_levels.Statement.{statement}
 use Rattle.tree.proofs.listing.list_levels.Tie as tie
-use Rattle.tree.proofs.listing.list_levels.Reads as reads
-use Rattle.tree.proofs.listing.list_levels.Lts as lts
-use Rattle.tree.proofs.merging.merge_levels.Reads as merge-levels-reads
-use Rattle.tree.proofs.timing.decode_levels.Reads as decode-levels-reads
 
 decode-levels-requires : tie.Need-decode-levels-requires
 decode-levels-requires c κs = search needs

@@ -6,9 +6,6 @@ use Rattle.tree.proofs.NodeFetches.{pins-bound}
 use borrow.Author.Needs.{needs}
 use Rattle.tree.proofs.listing.list_long.Statement.{statement}
 use Rattle.tree.proofs.listing.list_long.Tie as tie
-use Rattle.tree.proofs.listing.list_long.Reads as reads
-use Rattle.tree.proofs.listing.list_long.Lts as lts
-use Rattle.tree.proofs.listing.list_in.Reads as list-in-reads
 
 -- 16 levels have no more pins
 few : (c : tie.Start) → c .args .levels .pins ≤ 65535

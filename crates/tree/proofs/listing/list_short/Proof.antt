@@ -4,9 +4,6 @@ use Rattle.tree.proofs.Buffers.{new-front}
 use borrow.Author.Needs.{needs}
 use Rattle.tree.proofs.listing.list_short.Statement.{statement}
 use Rattle.tree.proofs.listing.list_short.Tie as tie
-use Rattle.tree.proofs.listing.list_short.Reads as reads
-use Rattle.tree.proofs.listing.list_short.Lts as lts
-use Rattle.tree.proofs.listing.list_in.Reads as list-in-reads
 
 array-borrow-prefix-values : tie.Need-array-borrow-prefix-values
 array-borrow-prefix-values c = search needs

@@ -6,8 +6,6 @@ use Rattle.tree.proofs.LevelMerges.{merges-first, merges-left}
 use borrow.Author.Needs.{needs}
 use Rattle.tree.proofs.merging.merge_left.Statement.{statement}
 use Rattle.tree.proofs.merging.merge_left.Tie as tie
-use Rattle.tree.proofs.merging.merge_left.Reads as reads
-use Rattle.tree.proofs.merging.merge_left.Lts as lts
 
 mul-parent : tie.Need-mul-parent
 mul-parent c = search needs

@@ -8,11 +8,6 @@ use borrow.Author.Tests.{not-false}
 use borrow.Author.Needs.{needs}
 use Rattle.tree.proofs.merging.merge_level.Statement.{statement}
 use Rattle.tree.proofs.merging.merge_level.Tie as tie
-use Rattle.tree.proofs.merging.merge_level.Reads as reads
-use Rattle.tree.proofs.merging.merge_level.Lts as lts
-use Rattle.tree.proofs.merging.merge_left.Reads as merge-left-reads
-use Rattle.tree.proofs.merging.merge_pairs.Reads as merge-pairs-reads
-use Rattle.tree.proofs.merging.move_up.Reads as move-up-reads
 
 move-up-requires : tie.Need-move-up-requires
 move-up-requires c κs = search needs

@@ -10,10 +10,6 @@ use borrow.Author.Tests.{not-false}
 use Rattle.tree.proofs.LevelMerges.{Grown, grown-root, first-odd, grown-next, grown-all, merged-none}
 use Rattle.tree.proofs.merging.merge_levels.Statement.{statement}
 use Rattle.tree.proofs.merging.merge_levels.Tie as tie
-use Rattle.tree.proofs.merging.merge_levels.Reads as reads
-use Rattle.tree.proofs.merging.merge_levels.Lts as lts
-use Rattle.codes.proofs.least.Reads as least-reads
-use Rattle.tree.proofs.merging.merge_level.Reads as merge-level-reads
 
 abbrev Inv-loop : tie.InvT-loop
 Inv-loop times₀ values n first₀ times first = (n ≡ length values) × (1 ≤ n) × (2 ≤ first) × (n < 65536) × (n ≤ length times) × Grown values times₀ first times

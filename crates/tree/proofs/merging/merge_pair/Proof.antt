@@ -8,9 +8,6 @@ use Rattle.tree.proofs.LevelMerges.{merges-right}
 use borrow.Author.Needs.{needs}
 use Rattle.tree.proofs.merging.merge_pair.Statement.{statement}
 use Rattle.tree.proofs.merging.merge_pair.Tie as tie
-use Rattle.tree.proofs.merging.merge_pair.Reads as reads
-use Rattle.tree.proofs.merging.merge_pair.Lts as lts
-use Rattle.tree.proofs.merging.merge_left.Reads as merge-left-reads
 
 mul-parent : tie.Need-mul-parent
 mul-parent c = search needs

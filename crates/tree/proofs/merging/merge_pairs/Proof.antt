@@ -8,9 +8,6 @@ use borrow.Author.Tests.{not-false}
 use Rattle.tree.specs.Merged.{Merges}
 use Rattle.tree.proofs.merging.merge_pairs.Statement.{statement}
 use Rattle.tree.proofs.merging.merge_pairs.Tie as tie
-use Rattle.tree.proofs.merging.merge_pairs.Reads as reads
-use Rattle.tree.proofs.merging.merge_pairs.Lts as lts
-use Rattle.tree.proofs.merging.merge_pair.Reads as merge-pair-reads
 
 abbrev Inv-loop : tie.InvT-loop
 Inv-loop times₀ stored pairs q₀ times q = (2 * q ≤ length stored) × (q ≤ pairs) × (length times ≡ length times₀) × Merges stored (2 * pairs) (2 * q) times₀ times

@@ -3,8 +3,6 @@ use native.Mathlib.Omega.{arith}
 use Rattle.tree.proofs.LevelMerges.{MovedUp, moved-none, moved-next, moved-all}
 use Rattle.tree.proofs.merging.move_up.Statement.{statement}
 use Rattle.tree.proofs.merging.move_up.Tie as tie
-use Rattle.tree.proofs.merging.move_up.Reads as reads
-use Rattle.tree.proofs.merging.move_up.Lts as lts
 
 abbrev Inv-loop : tie.InvT-loop
 Inv-loop times₀ above count i₀ times i = MovedUp times₀ above count i times

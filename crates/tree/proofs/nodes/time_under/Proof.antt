@@ -1,5 +1,4 @@
 -- `time_under` meets its contract.
-use native.Mathlib.Omega.{arith}
 use borrow.Author.Tests.{lt-ltb, le-ltb}
 use borrow.Author.Needs.{needs}
 use Rattle.tree.proofs.nodes.time_under.Statement.{statement}

@@ -1,5 +1,4 @@
 -- `decode_level` meets its contract.
-use native.Mathlib.Omega.{arith}
 use mathlib.Core.Path.{_≡_, sym, ap, _∙_}
 use mathlib.Core.Bool.{true, and-false}
 use lib.ListN.{length}
@@ -10,10 +9,6 @@ use Rattle.tree.proofs.LevelsChosen.{undecoded-other}
 use borrow.Author.Needs.{needs}
 use Rattle.tree.proofs.timing.decode_level.Statement.{statement}
 use Rattle.tree.proofs.timing.decode_level.Tie as tie
-use Rattle.tree.proofs.timing.decode_level.Reads as reads
-use Rattle.tree.proofs.timing.decode_level.Lts as lts
-use Rattle.codes.proofs.is_chosen.Reads as is-chosen-reads
-use Rattle.codes.proofs.decode.Reads as decode-reads
 
 decode-requires : tie.Need-decode-requires
 decode-requires c κs = search needs

@@ -1,13 +1,8 @@
 -- `known_times` meets its contract.
-use native.Mathlib.Omega.{arith}
 use mathlib.Core.Bool.{false≢true}
 use borrow.Author.Needs.{needs}
 use Rattle.tree.proofs.timing.known_times.Statement.{statement}
 use Rattle.tree.proofs.timing.known_times.Tie as tie
-use Rattle.tree.proofs.timing.known_times.Reads as reads
-use Rattle.tree.proofs.timing.known_times.Lts as lts
-use Rattle.tree.proofs.timing.decode_levels.Reads as decode-levels-reads
-use Rattle.tree.proofs.timing.time_nodes.Reads as time-nodes-reads
 
 decode-levels-requires : tie.Need-decode-levels-requires
 decode-levels-requires c κs = search needs
