@@ -1,4 +1,5 @@
--- The bytes of an open strip, put together again from its pin count, its levels' codes and their parts: where these are the image's, so are the bytes.
+-- The bytes of an open strip, put together again from its pin count, its levels' codes and their parts: where these are the image's, so
+-- are the bytes.
 use mathlib.Core.Path.{_≡_, refl, sym, ap, _∙_}
 use mathlib.Core.Bool.{true, _&&_, and-eq-true-iff}
 use mathlib.Core.List.{List, [], _∷_, _++_, append-assoc}

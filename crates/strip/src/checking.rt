@@ -88,8 +88,8 @@ fn is_image(s: &[u8], times: &[u32]) -> bool
     is_image_long(s, times)
 }
 
-// Tests 11 and 12, for a strip with these times. Where its levels are what pack writes for the values that they are decoded to, the bytes are
-// the list's image; else the list is packed and compared.
+// Tests 11 and 12, for a strip with these times. Where its levels are what pack writes for the values that they are decoded to, the bytes
+// are the list's image; else the list is packed and compared.
 fn check_list(chosen: bool, s: &[u8], times: &[u32]) -> Checked
     requires { ⌜ (length (now times) < 2 ^ 16) × (chosen ≡ true → image (now times) ≡ now s) ⌝ }
     ensures { λ r. ⌜ checked r ≡ verdict (fallsTest (now (times .entry)) ∷ test (not (same (image (now (times .entry))) (now (s .entry)))) 12 0 ∷ []) (length (now (times .entry))) ⌝ }

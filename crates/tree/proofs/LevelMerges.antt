@@ -1,4 +1,5 @@
--- A level merged with the list of the nodes above it, node by node from the last one on, and the ranks that its nodes and those above then have.
+-- A level merged with the list of the nodes above it, node by node from the last one on, and the ranks that its nodes and those above
+-- then have.
 use mathlib.Core.Path.{_≡_, refl, sym, ap, _∙_}
 use mathlib.Core.List.{List}
 use Prim.Native.Nat.{ℕ, suc, _+_, _-_, _*_, _/_, _%_, _^_, _≤_, _<_, min}
@@ -16,18 +17,10 @@ use Rattle.tree.specs.Levels.{fetchedAt}
 use Rattle.tree.specs.Times.{at, under}
 use Rattle.tree.specs.Known.{KnownValues}
 use Rattle.tree.specs.Merged.{KnownRanks, MergedFrom, Merges, AllMerged}
-use Rattle.tree.proofs.NodeTimes.{time-step}
+use Rattle.tree.proofs.NodeTimes.{time-step, time-left, time-right}
 use Rattle.tree.proofs.AllTimes.{timed-root}
 use Rattle.tree.proofs.LevelRanks.{rank-last, rank-above}
 use Rattle.tree.proofs.Ranks.{rank-lt}
-
--- ---- the times of a left and of a right child
-
-pub time-left : (v p d : ℕ) → v % 2 ≡ 0 → d ≤ p → at (p - d) ≡ under v (at p) (value d)
-time-left v p d e h = rw (eq-eqb (v % 2) 0 e, le-ltb p d h)
-
-pub time-right : (v p d : ℕ) → v % 2 ≡ 1 → p + d < 2 ^ 32 → at (p + d) ≡ under v (at p) (value d)
-time-right v p d e h = rw (ne-eqb (v % 2) 0 (λ z. omega arith), lt-ltb (p + d) (2 ^ 32) h)
 
 -- ---- the entries behind which no node stands
 
@@ -38,10 +31,9 @@ pub record MovedUp (before : List ℕ) (above count i : ℕ) (now : List ℕ) : 
   pub most : i ≤ above
   pub moved : (r : ℕ) → i ≤ r → r < above → getD now (r + count) 0 ≡ getD before r 0
   pub unmoved : (k : ℕ) → k < i + count → getD now k 0 ≡ getD before k 0
-  pub later : (k : ℕ) → above + count ≤ k → getD now k 0 ≡ getD before k 0
 
 pub moved-none : (before : List ℕ) (above count : ℕ) → count ≤ suc above → MovedUp before above count above before
-moved-none before above count h = record { kept = refl; least = h; most = omega arith; moved = λ r a b. absurd (omega arith); unmoved = λ k h. refl; later = λ k h. refl }
+moved-none before above count h = record { kept = refl; least = h; most = omega arith; moved = λ r a b. absurd (omega arith); unmoved = λ k h. refl }
 
 pub moved-next : (before : List ℕ) (above count i : ℕ) (now : List ℕ) → 1 ≤ count → count ≤ i → above + count ≤ length before → MovedUp before above count i now
     → MovedUp before above count (i - 1) (set now (i - 1 + count) (getD now (i - 1) 0))
@@ -54,7 +46,6 @@ moved-next before above count i now one h room w = record {
     | no z ↦ getD-set-other now (i - 1 + count) (r + count) (getD now (i - 1) 0) 0 (λ q. omega arith) ∙ w .moved r (omega arith) b
   ];
   unmoved = λ k a. getD-set-other now (i - 1 + count) k (getD now (i - 1) 0) 0 (λ q. omega arith) ∙ w .unmoved k (omega arith);
-  later = λ k a. getD-set-other now (i - 1 + count) k (getD now (i - 1) 0) 0 (λ q. omega (arith, w .most)) ∙ w .later k a;
 }
 
 -- then no node is in place yet
@@ -67,7 +58,6 @@ moved-all before above count i now stored h e w = rw (← e) record {
   entries = λ r a b.
       let m : r + min (suc r) (length stored) ≡ r + count = omega arith in
       rw m (w .moved r (omega (arith, w .least)) b);
-  later = λ k a. w .later k (omega arith);
 }
 
 -- ---- one node more
@@ -92,7 +82,6 @@ module _ {before stored now : List ℕ} {above j : ℕ} (w : MergedFrom before s
     unread = λ i h. absurd (omega arith);
     nodes = nodes-next (set now (2 * j) t) (getD-set-same now (2 * j) t 0 (omega (arith, w .kept))) (λ i h. getD-set-other now (2 * j) i t 0 (λ q. omega arith));
     entries = λ r h k. getD-set-other now (2 * j) (r + min (suc r) (length stored)) t 0 (λ q. omega arith) ∙ w .entries r (omega arith) k;
-    later = λ i h. getD-set-other now (2 * j) i t 0 (λ q. omega arith) ∙ w .later i h;
   }
 
   -- a later one, and the entry before it
@@ -109,7 +98,6 @@ module _ {before stored now : List ℕ} {above j : ℕ} (w : MergedFrom before s
           rw (p, getD-set-same now′ (2 * j - 1) x 0 (rw (length-set now (2 * j) t, w .kept) (omega arith)), q)
       | no z ↦ other (r + min (suc r) (length stored)) (λ q. omega arith) (λ q. omega arith) ∙ w .entries r (omega arith) k
     ];
-    later = λ i h. other i (λ q. omega arith) (λ q. omega arith) ∙ w .later i h;
   }
     where
       x : ℕ
@@ -184,7 +172,6 @@ pub record Grown (values before : List ℕ) (first : ℕ) (now : List ℕ) : Typ
   pub power : first ≡ 2 ^ suc depth
   pub kept : length now ≡ length before
   pub listed : (levels : Levels) (s : List ℕ) → KnownValues levels s values → KnownRanks levels s (min (first - 1) (length values)) now
-  pub others : (i : ℕ) → length values ≤ i → getD now i 0 ≡ getD before i 0
 
 -- the root stores its time
 pub grown-root : (values now : List ℕ) → 1 ≤ length values → getD now 0 0 ≡ getD values 0 0 → getD values 0 0 < 2 ^ 32 → Grown values now 2 now
@@ -196,7 +183,6 @@ grown-root values now some own fits = record {
       let e : v ≡ 1 = omega arith in
       let n : min (2 - 1) (length values) ≡ 1 = omega arith in
       rw (e, n, rank-last 1 0 1 (omega arith) (omega arith) (omega arith) (omega arith), own) (timed-root values fits .times levels s known 1 (omega arith) (omega arith) some);
-  others = λ i h. refl;
 }
 
 module _ (values before : List ℕ) (first : ℕ) (now : List ℕ) (g : Grown values before first now) where
@@ -210,7 +196,6 @@ module _ (values before : List ℕ) (first : ℕ) (now : List ℕ) (g : Grown va
     power = ap (λ (x : ℕ). 2 * x) (g .power) ∙ sym (pow-succ' 2 (suc (g .depth)));
     kept = w .kept ∙ g .kept;
     listed = listed;
-    others = λ i k. w .later i (omega (arith, count, some)) ∙ g .others i k;
   }
     where
       some : 2 ≤ first
@@ -236,11 +221,8 @@ module _ (values before : List ℕ) (first : ℕ) (now : List ℕ) (g : Grown va
           rw (v, se, getD-take (last - (first - 1)) (drop (first - 1) values) i 0 (omega (arith, count)), getD-drop, ← p) (known (first + i) (omega (arith, some)) (node-in i k)))
           w (rw above at (g .listed levels s known)))
 
-  pub grown-all : (was : List ℕ) (x : ℕ) → length values < first → 1 ≤ length values → before ≡ set was 0 x → AllMerged values was now
-  grown-all was x h some e = record {
-    listed = λ levels s known. let all : min (first - 1) (length values) ≡ length values = omega arith in rw all at (g .listed levels s known);
-    others = λ i k. g .others i k ∙ rw e (getD-set-other was 0 i x 0 (λ z. omega arith));
-  }
+  pub grown-all : length values < first → AllMerged values now
+  grown-all h levels s known = let all : min (first - 1) (length values) ≡ length values = omega arith in rw all at (g .listed levels s known)
 
-pub merged-none : (values was : List ℕ) → length values ≡ 0 → AllMerged values was was
-merged-none values was e = record { listed = λ levels s known v a b. absurd (omega arith); others = λ i h. refl }
+pub merged-none : (values now : List ℕ) → length values ≡ 0 → AllMerged values now
+merged-none values now e levels s known v a b = absurd (omega arith)

@@ -1,5 +1,5 @@
--- The ranks of a tree's last level, and what this level does to the ranks of the nodes above it: the list of the nodes above, with the level's nodes
--- put between its entries, is the list of all.
+-- The ranks of a tree's last level, and what this level does to the ranks of the nodes above it: the list of the nodes above, with the
+-- level's nodes put between its entries, is the list of all.
 use mathlib.Core.Path.{_≡_, _∙_}
 use Prim.Native.Nat.{ℕ, zero, suc, _+_, _-_, _*_, _^_, _≤_, _<_, min}
 use native.Mathlib.Nat.{pow-succ', mul-le-mul-right}
@@ -59,8 +59,8 @@ rank-last n j v lo hi a b =
     let e : rootPlace (stretch n v .pins) ≡ 1 = rw p (place-small 1 (omega arith)) in
     omega (arith, rank-in n v (omega (arith, pow-pos j)) b)
 
--- Above it: the tree without its last level, of m pins, is full. A node's rank there is followed by that of one node of the last level, as long as there
--- is one.
+-- Above it: the tree without its last level, of m pins, is full. A node's rank there is followed by that of one node of the last level,
+-- as long as there is one.
 pub rank-above : (n m j u : ℕ) → suc m ≡ 2 ^ suc j → m < n → n < 2 ^ suc (suc j) → 1 ≤ u → u ≤ m → rank n u ≡ rank m u + min (suc (rank m u)) (n - m)
 rank-above n m j u em lo hi a b = let d = digits u a in go (d .top) (d .least) (d .below) (decLt j (d .top))
   where

@@ -1,4 +1,5 @@
--- Where every position has a time, the nodes have the times of that list at their ranks, and what is fetched for them is what the list's tree stores.
+-- Where every position has a time, the nodes have the times of that list at their ranks, and what is fetched for them is what the
+-- list's tree stores.
 use mathlib.Core.Path.{_≡_, refl, sym, ap, subst, _∙_}
 use mathlib.Core.Bool.{true, false, cond, and-eq-true-iff, false≢true}
 use mathlib.Core.List.{List, [], _∷_}

@@ -1,7 +1,9 @@
 -- A node's time follows from its parent's and what is fetched for it.
 use mathlib.Core.Path.{_≡_}
-use Prim.Native.Nat.{ℕ, _/_, _≤_}
-use Rattle.codes.specs.Fetch.{Fetched}
+use Prim.Native.Nat.{ℕ, _+_, _-_, _/_, _%_, _^_, _≤_, _<_}
+use native.Mathlib.Omega.{arith}
+use borrow.Author.Tests.{lt-ltb, le-ltb, eq-eqb, ne-eqb}
+use Rattle.codes.specs.Fetch.{Fetched, value}
 use Rattle.tree.specs.Times.{at, under, nodeTimeIn, nodeTime}
 use Rattle.tree.proofs.Heights.{height-zero, height-step}
 
@@ -13,3 +15,10 @@ time-above fetch = rw height-zero
 pub time-step : (fetch : ℕ → Fetched) (v : ℕ) → 1 ≤ v → nodeTime fetch v ≡ under v (nodeTime fetch (v / 2)) (fetch v)
 unfolding nodeTime nodeTimeIn
 time-step fetch v h = rw (height-step v h)
+
+-- a left and a right child, where their times are not refused
+pub time-left : (v p d : ℕ) → v % 2 ≡ 0 → d ≤ p → at (p - d) ≡ under v (at p) (value d)
+time-left v p d e h = rw (eq-eqb (v % 2) 0 e, le-ltb p d h)
+
+pub time-right : (v p d : ℕ) → v % 2 ≡ 1 → p + d < 2 ^ 32 → at (p + d) ≡ under v (at p) (value d)
+time-right v p d e h = rw (ne-eqb (v % 2) 0 (λ z. omega arith), lt-ltb (p + d) (2 ^ 32) h)

@@ -1,5 +1,6 @@
--- A level merged into the list of the nodes above it, as the functions that list a tree keep it. With `above` nodes above a level, its node i, counted
--- from 0, stands before entry i of their list, from which it hangs where i is even, and after entry i - 1, from which it hangs where i is odd.
+-- A level merged into the list of the nodes above it, as the functions that list a tree keep it. With `above` nodes above a level, its
+-- node i, counted from 0, stands before entry i of their list, from which it hangs where i is even, and after entry i - 1, from which it
+-- hangs where i is odd.
 use mathlib.Core.Path.{_≡_}
 use mathlib.Core.List.{List}
 use Prim.Native.Nat.{ℕ, suc, _+_, _*_, _/_, _≤_, _<_, min}
@@ -20,7 +21,6 @@ pub record MergedFrom (before stored : List ℕ) (above j : ℕ) (now : List ℕ
   pub unread : (i : ℕ) → suc i < 2 * j → getD now i 0 ≡ getD before i 0
   pub nodes : (i : ℕ) → j ≤ i → i < length stored → at (getD now (2 * i) 0) ≡ under (suc above + i) (at (getD before (i / 2 * 2) 0)) (value (getD stored i 0))
   pub entries : (r : ℕ) → j ≤ suc r → r < above → getD now (r + min (suc r) (length stored)) 0 ≡ getD before r 0
-  pub later : (i : ℕ) → above + length stored ≤ i → getD now i 0 ≡ getD before i 0
 
 -- a step of the merge, from node `next` down to node j
 abbrev pub Merges : List ℕ → ℕ → ℕ → List ℕ → List ℕ → Type 0
@@ -28,7 +28,6 @@ Merges stored next j was now =
     (before : List ℕ) (above : ℕ) → above / 2 * 2 + 1 ≡ above → length stored ≤ suc above → above + length stored ≤ length before
     → MergedFrom before stored above next was → MergedFrom before stored above j now
 
--- what the nodes store has become the list of their times, and nothing else has changed
-pub record AllMerged (values before after : List ℕ) : Type 0 where
-  pub listed : (levels : Levels) (s : List ℕ) → KnownValues levels s values → KnownRanks levels s (length values) after
-  pub others : (i : ℕ) → length values ≤ i → getD after i 0 ≡ getD before i 0
+-- what the nodes store has become the list of their times
+abbrev pub AllMerged : List ℕ → List ℕ → Type 0
+AllMerged values now = (levels : Levels) (s : List ℕ) → KnownValues levels s values → KnownRanks levels s (length values) now

@@ -96,8 +96,8 @@ pub record SweepFinds : Type 0 where
   pub pins : (xs ts : List ℕ) → different xs ts ≤ length xs
   pub heights : (xs ts : List ℕ) → different xs ts ≤ length ts * height (length xs)
 
--- 8. Where the levels are what pack writes for the values that they are decoded to, and every position has a time, these values are what the tree of the
--- listed times stores.
+-- 8. Where the levels are what pack writes for the values that they are decoded to, and every position has a time, these values are what
+-- the tree of the listed times stores.
 abbrev pub ChosenStored : Type 0
 ChosenStored = (levels : Levels) (s : List ℕ) → allChosen levels s ≡ true → nowhere ≡ stopFrom (accesses levels s) (levels .pins) 0
     → (l : ℕ) → 1 ≤ l → l ≤ height (levels .pins)

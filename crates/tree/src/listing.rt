@@ -107,8 +107,8 @@ fn list_levels(
     }
 }
 
-// As `list_by`, with room for what the nodes store. Where all levels are decoded and no time is below 0 or above the greatest, they are listed level
-// by level; else the entries are made 0 again, and the nodes are opened one by one.
+// As `list_by`, with room for what the nodes store. Where all levels are decoded and no time is below 0 or above the greatest, they are
+// listed level by level; else the entries are made 0 again, and the nodes are opened one by one.
 fn list_in(
     times: &mut [u32],
     values: &mut [u32],

@@ -88,7 +88,7 @@ fn merge_level(times: &mut [u32], stored: &[u32], above: usize) -> bool
 // Makes the list of all times of what the nodes store, in node order. It fails where a time is below 0 or above 4,294,967,295.
 pub(crate) fn merge_levels(times: &mut [u32], values: &[u32]) -> bool
     requires { ⌜ (length (now values) < 2 ^ 16) × (length (now values) ≤ length (now times)) ⌝ }
-    ensures { λ r. ⌜ (r ≡ true → AllMerged (now (values .entry)) (now (times .entry)) (now (times .exit))) ⌝ }
+    ensures { λ r. ⌜ (r ≡ true → AllMerged (now (values .entry)) (now (times .exit))) ⌝ }
 {
     let n = values.len();
     if n == 0 {

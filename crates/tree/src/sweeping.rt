@@ -247,8 +247,8 @@ pub fn sweep(answers: &mut [u32], s: &[u8], levels: Levels, targets: &[u32]) -> 
     ensures { λ r. ⌜ swept r ≡ sweep (levels .pins) (timesIn levels (now (s .entry))) (now (targets .entry)) .answer ⌝ }
     ensures { λ r. ⌜ now (answers .exit) ≡ replaced (now (answers .entry)) 0 (sweep (levels .pins) (timesIn levels (now (s .entry))) (now (targets .entry)) .positions) ⌝ }
 {
-    // With many targets it is faster to find the times of all nodes first, and with fewer where fetches are slow. There are two calls, since
-    // one would be compiled into this function, and the room for all times onto the stack of each sweep.
+    // With many targets it is faster to find the times of all nodes first, and with fewer where fetches are slow. There are two calls,
+    // since one would be compiled into this function, and the room for all times onto the stack of each sweep.
     if is_lowest_chunked(levels) {
         if targets.len() >= levels.pins / 128 {
             return sweep_many(answers, s, levels, targets);

@@ -1,31 +1,41 @@
 // What all nodes store, and their times, in node order: entry v - 1 is node v's.
+use super::nodes::GREATEST;
 use super::nodes::Levels;
-use super::nodes::Opened;
-use super::nodes::time_under;
 use codes::least;
 ghost use mathlib.Core.Path.{_≡_};
 ghost use mathlib.Core.Bool.{true, _&&_};
-ghost use Prim.Native.Nat.{_^_, _≤_, _<_};
+ghost use Prim.Native.Nat.{_%_, _^_, _≤_, _<_};
 ghost use lib.ListN.{length};
 ghost use Rattle.codes.specs.Decode.{decoded, isDecoded, decodedOr0};
 ghost use Rattle.tree.specs.Levels.{Fits};
 ghost use Rattle.tree.specs.Chosen.{chosenBy, allChosen};
 ghost use Rattle.tree.specs.Known.{KnownTimes, KnownValues, NodeTimed, AllTimed};
 
-// Makes the entry of node v, which is what it stores, its time, where that is not below 0 nor above 4,294,967,295. The time of its
-// parent is `above`.
-fn time_node(values: &mut [u32], v: usize, above: u32) -> bool
-    requires { ⌜ (1 ≤ v) × (v ≤ length (now values)) ⌝ }
+// Makes the entry of node v, a left child, its time, where that is not below 0. The entry is what it stores, and `above` is the time of its
+// parent.
+fn time_left(values: &mut [u32], v: usize, above: u32) -> bool
+    requires { ⌜ (v % 2 ≡ 0) × (1 ≤ v) × (v ≤ length (now values)) ⌝ }
     ensures { λ r. ⌜ (r ≡ true → NodeTimed v above (now (values .entry)) (now (values .exit))) ⌝ }
 {
-    let opened = time_under(v, above, values[v - 1]);
-    match opened {
-        Opened::Time(t) => {
-            values[v - 1] = t;
-            true
-        }
-        Opened::Refused(r) => false,
+    let d = values[v - 1];
+    if above < d {
+        return false;
     }
+    values[v - 1] = above - d;
+    true
+}
+
+// The same for a right child, where its time is not above 4,294,967,295.
+fn time_right(values: &mut [u32], v: usize, above: u32) -> bool
+    requires { ⌜ (v % 2 ≡ 1) × (1 ≤ v) × (v ≤ length (now values)) ⌝ }
+    ensures { λ r. ⌜ (r ≡ true → NodeTimed v above (now (values .entry)) (now (values .exit))) ⌝ }
+{
+    let d = values[v - 1];
+    if GREATEST - above < d {
+        return false;
+    }
+    values[v - 1] = above + d;
+    true
 }
 
 // Makes what the nodes store their times, as far as there are such times, two children with each turn. The root stores its time.
@@ -36,10 +46,10 @@ fn time_nodes(values: &mut [u32]) -> bool
     let mut v: usize = 1;
     while 2 * v < n {
         let above = values[v - 1];
-        if !time_node(values, 2 * v, above) {
+        if !time_left(values, 2 * v, above) {
             return false;
         }
-        if !time_node(values, 2 * v + 1, above) {
+        if !time_right(values, 2 * v + 1, above) {
             return false;
         }
         v += 1;
@@ -47,7 +57,7 @@ fn time_nodes(values: &mut [u32]) -> bool
     // A last left child may have no sibling.
     if 2 * v == n {
         let above = values[v - 1];
-        return time_node(values, n, above);
+        return time_left(values, n, above);
     }
     true
 }

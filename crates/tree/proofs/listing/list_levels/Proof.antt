@@ -37,7 +37,7 @@ returns-2 c =
     let a = c .before .before .before .before .before .before .before .before .before .before .before .before .before .before .args in
     let x = c .before .before .before .before .before .before .before .before .before .decode-levels in
     let pins : length (x .last .0) ≡ a .levels .pins = x .kept .0 ∙ omega arith in
-    (λ e. rw pins at (c .before .before .merge-levels .ensures e .listed (a .levels) (a .s .now) (x .ensures .0 (not-false (x .result .decoded) (c .before .before .before .before .before .if1 .left)))), x .ensures .1)
+    (λ e. rw pins at (c .before .before .merge-levels .ensures e (a .levels) (a .s .now) (x .ensures .0 (not-false (x .result .decoded) (c .before .before .before .before .before .if1 .left)))), x .ensures .1)
 
 pub list-levels-spec : {M : Type 1} → statement M
 list-levels-spec =

@@ -109,9 +109,8 @@ same-length-2 c = c .before .loop .inv .5 .kept ∙ simp length-set
 
 returns-3 : tie.Need-returns-3 Inv-loop μ-loop
 returns-3 c e =
-    let a = c .before .before .before .before .before .before .args in
     let l = c .before .loop in
-    grown-all _ _ (l .first) (l .times) (l .inv .5) (a .times .now) (getD (a .values .now) 0 0) (omega arith) (omega arith) refl
+    grown-all _ _ (l .first) (l .times) (l .inv .5) (omega arith)
 
 pub merge-levels-spec : {M : Type 1} → statement M
 merge-levels-spec =
