@@ -1,21 +1,21 @@
--- How many values have a width, and how many have more bits than a width.
+-- How many values have how many zero bits above their highest one bit, and how many have more bits than a width.
 use mathlib.Core.Path.{_≡_, refl, sym, ap, _∙_}
 use mathlib.Core.Bool.{Bool, true, false, cond}
 use mathlib.Core.List.{List, [], _∷_, _++_}
-use Prim.Native.Nat.{ℕ, zero, suc, _+_, _-_, _/_, _^_, _≤_, _<_}
-use native.Mathlib.Nat.{lt-of-not-le, zero-div}
+use Prim.Native.Nat.{ℕ, zero, suc, _+_, _-_, _*_, _/_, _^_, _≤_, _<_}
+use native.Mathlib.Nat.{le-trans, lt-of-not-le, zero-div}
 use native.Mathlib.Numerals.{add-one}
 use native.Mathlib.Omega.{arith}
 use lib.Dec.{eqb, ltb}
-use lib.ListN.{length, take, drop, set, getD, take-append-drop, List·getD-eq-default}
+use lib.ListN.{length, take, drop, set, getD, take-append-drop, length-take, length-drop, List·getD-eq-default}
 use lib.Pow.{pow-pos, shr-shr}
-use lib.Seq.{take-suc, getD-set-same, getD-set-other}
+use lib.Seq.{take-suc, drop-drop, drop-length, getD-drop, getD-set-same, getD-set-other}
 use borrow.Author.Tests.{eq-eqb, eqb-true, eqb-false, ltb-true, ltb-false}
 use Rattle.codes.specs.Codes.{rest, Within}
 use Rattle.codes.specs.Choice.{width, widest}
-use Rattle.codes.specs.Measure.{tally, Tallied, Measured}
+use Rattle.codes.specs.Measure.{tally, counted, Tallied, Measured}
 use Rattle.codes.proofs.Layers.{within-more, rest-none}
-use Rattle.codes.proofs.Widths.{shr-none, width-ends, width-goes, widest-holds}
+use Rattle.codes.proofs.Widths.{width-zeros, shr-none, width-ends, width-goes, widest-holds}
 
 -- ---- those with more than t bits
 
@@ -55,70 +55,98 @@ rest-rest s b (v ∷ vs) = go (eqb (v / 2 ^ s) 0) refl (rest-rest s b vs)
         rw (eq-eqb (v / 2 ^ (s + b)) 0 z) ih
     go false p ih = rw (shr-shr v s b, ih)
 
--- ---- those of width t
+-- ---- those with z zero bits above their highest one bit
 
--- those with more than t - 1 bits have more than t or are of width t
-rest-tally : (t : ℕ) (vs : List ℕ) → 0 < t → Within 32 vs → length (rest (t - 1) vs) ≡ length (rest t vs) + tally t vs
+-- those with more than t - 1 bits have more than t, or 32 - t zero bits
+rest-tally : (t : ℕ) (vs : List ℕ) → 0 < t → t ≤ 32 → Within 32 vs → length (rest (t - 1) vs) ≡ length (rest t vs) + tally (32 - t) vs
 unfolding rest tally
-rest-tally t [] l h = refl
-rest-tally t (v ∷ vs) l h = go (eqb (v / 2 ^ (t - 1)) 0) (eqb (v / 2 ^ t) 0) (eqb (width v) t) refl refl refl (rest-tally t vs l (λ j. h (suc j)))
+rest-tally t [] l m h = refl
+rest-tally t (v ∷ vs) l m h = go (eqb (v / 2 ^ (t - 1)) 0) (eqb (v / 2 ^ t) 0) (eqb (32 - width v) (32 - t)) refl refl refl (rest-tally t vs l m (λ j. h (suc j)))
   where
-    go : (p q r : Bool) → eqb (v / 2 ^ (t - 1)) 0 ≡ p → eqb (v / 2 ^ t) 0 ≡ q → eqb (width v) t ≡ r → length (rest (t - 1) vs) ≡ length (rest t vs) + tally t vs
-        → length (cond p (rest (t - 1) vs) (v / 2 ^ (t - 1) ∷ rest (t - 1) vs)) ≡ length (cond q (rest t vs) (v / 2 ^ t ∷ rest t vs)) + (cond r 1 0 + tally t vs)
-    go true q true a b c ih = omega (arith, width-ends 32 (t - 1) v (eqb-true (v / 2 ^ (t - 1)) 0 a), eqb-true (width v) t c)
+    most : width v ≤ 32
+    most = omega (arith, width-zeros 32 v)
+
+    go : (p q r : Bool) → eqb (v / 2 ^ (t - 1)) 0 ≡ p → eqb (v / 2 ^ t) 0 ≡ q → eqb (32 - width v) (32 - t) ≡ r → length (rest (t - 1) vs) ≡ length (rest t vs) + tally (32 - t) vs
+        → length (cond p (rest (t - 1) vs) (v / 2 ^ (t - 1) ∷ rest (t - 1) vs)) ≡ length (cond q (rest t vs) (v / 2 ^ t ∷ rest t vs)) + (cond r 1 0 + tally (32 - t) vs)
+    go true q true a b c ih = omega (arith, most, width-ends 32 (t - 1) v (eqb-true (v / 2 ^ (t - 1)) 0 a), eqb-true (32 - width v) (32 - t) c)
     go true true false a b c ih = omega arith
     go true false false a b c ih =
         omega (arith, width-ends 32 (t - 1) v (eqb-true (v / 2 ^ (t - 1)) 0 a), width-goes 32 t v (h 0) (eqb-false (v / 2 ^ t) 0 b))
     go false true true a b c ih = omega arith
     go false true false a b c ih =
-        omega (arith, width-goes 32 (t - 1) v (h 0) (eqb-false (v / 2 ^ (t - 1)) 0 a), width-ends 32 t v (eqb-true (v / 2 ^ t) 0 b), eqb-false (width v) t c)
-    go false false true a b c ih = omega (arith, width-goes 32 t v (h 0) (eqb-false (v / 2 ^ t) 0 b), eqb-true (width v) t c)
+        omega (arith, width-goes 32 (t - 1) v (h 0) (eqb-false (v / 2 ^ (t - 1)) 0 a), width-ends 32 t v (eqb-true (v / 2 ^ t) 0 b), eqb-false (32 - width v) (32 - t) c)
+    go false false true a b c ih = omega (arith, most, width-goes 32 t v (h 0) (eqb-false (v / 2 ^ t) 0 b), eqb-true (32 - width v) (32 - t) c)
     go false false false a b c ih = omega arith
 
-pub tally-le : (t : ℕ) (vs : List ℕ) → tally t vs ≤ length vs
+pub tally-le : (z : ℕ) (vs : List ℕ) → tally z vs ≤ length vs
 unfolding tally
-tally-le t [] = omega arith
-tally-le t (v ∷ vs) = go (eqb (width v) t) (tally-le t vs)
+tally-le z [] = omega arith
+tally-le z (v ∷ vs) = go (eqb (32 - width v) z) (tally-le z vs)
   where
-    go : (s : Bool) → tally t vs ≤ length vs → cond s 1 0 + tally t vs ≤ suc (length vs)
+    go : (s : Bool) → tally z vs ≤ length vs → cond s 1 0 + tally z vs ≤ suc (length vs)
     go true h = omega arith
     go false h = omega arith
 
-tally-append : (t : ℕ) (xs ys : List ℕ) → tally t (xs ++ ys) ≡ tally t xs + tally t ys
-unfolding tally
-tally-append t [] ys = omega arith
-tally-append t (x ∷ xs) ys = omega (arith, tally-append t xs ys)
+pub tally-few : (z i : ℕ) (vs : List ℕ) → tally z (take i vs) ≤ i
+tally-few z i vs = le-trans (tally-le z (take i vs)) (simp length-take (omega arith))
 
--- two halves, and one value more where there is one
-pub tally-halves : (t half : ℕ) (vs : List ℕ) → tally t vs ≡ tally t (take half vs) + tally t (drop half vs)
-tally-halves t half vs = ap (tally t) (sym (take-append-drop half vs)) ∙ tally-append t (take half vs) (drop half vs)
-
--- one value more, counted at its width
-pub tally-more : (counts vs : List ℕ) (i w : ℕ) → i < length vs → w ≡ width (getD vs i 0) → w < length counts
-    → ((t : ℕ) → getD counts t 0 ≡ tally t (take i vs))
-    → (t : ℕ) → getD (set counts w (getD counts w 0 + 1)) t 0 ≡ tally t (take (i + 1) vs)
+tally-append : (z : ℕ) (xs ys : List ℕ) → tally z (xs ++ ys) ≡ tally z xs + tally z ys
 unfolding tally
-tally-more counts vs i w h q l e t = rw (add-one i, take-suc vs i 0 h, tally-append t (take i vs) (getD vs i 0 ∷ []), ← q) (go (eqb w t) refl)
+tally-append z [] ys = omega arith
+tally-append z (x ∷ xs) ys = omega (arith, tally-append z xs ys)
+
+-- one value more
+pub tally-next : (z : ℕ) (vs : List ℕ) (i : ℕ) → i < length vs → tally z (take (i + 1) vs) ≡ tally z (take i vs) + tally z (getD vs i 0 ∷ [])
+tally-next z vs i h = rw (add-one i, take-suc vs i 0 h) (tally-append z (take i vs) (getD vs i 0 ∷ []))
+
+pub tally-after : (z : ℕ) (vs : List ℕ) (a i : ℕ) → a + i < length vs
+    → tally z (take (i + 1) (drop a vs)) ≡ tally z (take i (drop a vs)) + tally z (getD vs (a + i) 0 ∷ [])
+tally-after z vs a i h = rw (← (getD-drop a vs i 0)) (tally-next z (drop a vs) i (simp length-drop (omega arith)))
+
+-- which is counted where its zeros say
+pub counted-more : (counts : List ℕ) (v k z : ℕ) → k < length counts → k ≡ 32 - width v → getD (set counts k (getD counts k 0 + 1)) z 0 ≡ getD counts z 0 + tally z (v ∷ [])
+unfolding tally
+counted-more counts v k z h e = rw (← e) (go (eqb k z) refl)
   where
-    go : (s : Bool) → eqb w t ≡ s → getD (set counts w (getD counts w 0 + 1)) t 0 ≡ tally t (take i vs) + (cond s 1 0 + 0)
-    go true p = rw (← (eqb-true w t p), getD-set-same counts w (getD counts w 0 + 1) 0 l) (omega (arith, e w))
-    go false p = rw (getD-set-other counts w t (getD counts w 0 + 1) 0 (λ q. eqb-false w t p (sym q))) (omega (arith, e t))
+    go : (s : Bool) → eqb k z ≡ s → getD (set counts k (getD counts k 0 + 1)) z 0 ≡ getD counts z 0 + (cond s 1 0 + 0)
+    go true p = rw (← (eqb-true k z p)) (getD-set-same counts k (getD counts k 0 + 1) 0 h)
+    go false p = rw (getD-set-other counts k z (getD counts k 0 + 1) 0 (λ q. eqb-false k z p (sym q))) (omega arith)
+
+-- q values from value a on, and those after them
+tally-part : (z : ℕ) (vs : List ℕ) (a q b : ℕ) → a + q ≡ b → tally z (drop a vs) ≡ tally z (take q (drop a vs)) + tally z (drop b vs)
+tally-part z vs a q b e = rw (← e, ← (drop-drop q a vs)) (ap (tally z) (sym (take-append-drop q (drop a vs))) ∙ tally-append z (take q (drop a vs)) (drop q (drop a vs)))
+
+-- the first a values, and four quarters
+pub tally-quarters : (z : ℕ) (vs : List ℕ) (a q : ℕ) → a + q * 4 ≡ length vs
+    → tally z vs ≡ tally z (take a vs) + tally z (take q (drop a vs)) + tally z (take q (drop (a + q) vs)) + tally z (take q (drop (a + q * 2) vs)) + tally z (take q (drop (a + q * 3) vs))
+unfolding tally
+tally-quarters z vs a q e =
+    let none : tally z (drop (a + q * 4) vs) ≡ 0 = rw (e, drop-length vs) in
+    omega (
+      arith,
+      none,
+      ap (tally z) (sym (take-append-drop a vs)) ∙ tally-append z (take a vs) (drop a vs),
+      tally-part z vs a q (a + q) refl,
+      tally-part z vs (a + q) q (a + q * 2) (omega arith),
+      tally-part z vs (a + q * 2) q (a + q * 3) (omega arith),
+      tally-part z vs (a + q * 3) q (a + q * 4) (omega arith),
+    )
 
 -- ---- the counts in an array
 
 -- one entry more, from the one above it
-pub measured-more : (over first second vs : List ℕ) (t : ℕ) → 0 < t → t ≤ 32 → length over ≡ 33 → Tallied vs first second
+pub measured-more : (over vs first second third fourth : List ℕ) (t : ℕ) → 0 < t → t ≤ 32 → length over ≡ 33 → Tallied vs first second third fourth
     → ((u : ℕ) → t ≤ u → u ≤ 32 → getD over u 0 ≡ length (rest u vs))
-    → (u : ℕ) → t - 1 ≤ u → u ≤ 32 → getD (set over (t - 1) (getD over t 0 + (getD first t 0 + getD second t 0))) u 0 ≡ length (rest u vs)
-measured-more over first second vs t l k n h e u m j = go (eqb u (t - 1)) refl
+    → (u : ℕ) → t - 1 ≤ u → u ≤ 32 → getD (set over (t - 1) (getD over t 0 + counted first second third fourth (32 - t))) u 0 ≡ length (rest u vs)
+measured-more over vs first second third fourth t l k n h e u m j = go (eqb u (t - 1)) refl
   where
     x : ℕ
-    x = getD over t 0 + (getD first t 0 + getD second t 0)
+    x = getD over t 0 + counted first second third fourth (32 - t)
 
     go : (s : Bool) → eqb u (t - 1) ≡ s → getD (set over (t - 1) x) u 0 ≡ length (rest u vs)
     go true p =
         rw (eqb-true u (t - 1) p, getD-set-same over (t - 1) x 0 (omega arith))
-        (omega (arith, e t (omega arith) k, h .each t k, rest-tally t vs l (h .within)))
+        (omega (arith, e t (omega arith) k, h .each (32 - t), rest-tally t vs l k (h .within)))
     go false p =
         let q = eqb-false u (t - 1) p in
         rw (getD-set-other over (t - 1) u x 0 q) (e u (omega arith) j)

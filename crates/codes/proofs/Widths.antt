@@ -89,14 +89,14 @@ or-ge-r a b = omega (arith, or-add-and a b, and-le-l a b)
 pub spans-none : Spans [] 0
 spans-none = record { holds = λ w _ j. pow-pos w; held = λ w _. pow-pos w }
 
-pub spans-one : (v : ℕ) → Spans (v ∷ []) v
+spans-one : (v : ℕ) → Spans (v ∷ []) v
 spans-one v = record { holds = one; held = λ w h. h 0 }
   where
     one : (w : ℕ) → v < 2 ^ w → Within w (v ∷ [])
     one w h zero = h
     one w h (suc j) = pow-pos w
 
-pub spans-append : (xs ys : List ℕ) (a b : ℕ) → Spans xs a → Spans ys b → Spans (xs ++ ys) (bitOr a b)
+spans-append : (xs ys : List ℕ) (a b : ℕ) → Spans xs a → Spans ys b → Spans (xs ++ ys) (bitOr a b)
 spans-append xs ys a b p q =
     record {
       holds = λ w h. within-append w xs ys (p .holds w (lt-of-le-of-lt (or-ge-l a b) h)) (q .holds w (lt-of-le-of-lt (or-ge-r a b) h));

@@ -2,7 +2,7 @@
 use mathlib.Core.Path.{_≡_}
 use mathlib.Core.Bool.{cond}
 use mathlib.Core.List.{List, [], _∷_}
-use Prim.Native.Nat.{ℕ, _+_, _^_, _<_, _≤_}
+use Prim.Native.Nat.{ℕ, _+_, _-_, _^_, _<_, _≤_}
 use lib.Dec.{eqb}
 use lib.ListN.{length, getD}
 use Rattle.codes.specs.Codes.{rest, Within}
@@ -13,14 +13,17 @@ pub record Spans (vs : List ℕ) (r : ℕ) : Type 0 where
   pub holds : (w : ℕ) → r < 2 ^ w → Within w vs
   pub held : (w : ℕ) → Within w vs → r < 2 ^ w
 
--- how many values have width t
+-- how many values have z zero bits above their highest one bit, of 32
 unfoldable pub tally : ℕ → List ℕ → ℕ
-tally t [] = 0
-tally t (v ∷ vs) = cond (eqb (width v) t) 1 0 + tally t vs
+tally z [] = 0
+tally z (v ∷ vs) = cond (eqb (32 - width v) z) 1 0 + tally z vs
 
--- of the values first[t] and second[t] more have width t
-pub record Tallied (vs first second : List ℕ) : Type 0 where
-  pub each : (t : ℕ) → t ≤ 32 → getD first t 0 + getD second t 0 ≡ tally t vs
+-- their count, in four parts
+abbrev pub counted : List ℕ → List ℕ → List ℕ → List ℕ → ℕ → ℕ
+counted first second third fourth z = getD first z 0 + getD second z 0 + (getD third z 0 + getD fourth z 0)
+
+pub record Tallied (vs first second third fourth : List ℕ) : Type 0 where
+  pub each : (z : ℕ) → counted first second third fourth z ≡ tally z vs
   pub within : Within 32 vs
 
 -- over[t] of the values have more than t bits
