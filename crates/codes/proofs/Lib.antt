@@ -9,6 +9,7 @@ pub mod CodeByte
 pub mod DecodedParts
 pub mod Decodes
 pub mod Fetches
+pub mod Groups
 pub mod Layers
 pub mod LayersWritten
 pub mod Lists

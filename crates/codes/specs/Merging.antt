@@ -3,7 +3,7 @@
 use mathlib.Core.Path.{_≡_}
 use mathlib.Core.Bool.{Bool, true, false}
 use mathlib.Core.List.{List}
-use Prim.Native.Nat.{ℕ, _-_, _*_, _^_, _≤_, _<_}
+use Prim.Native.Nat.{ℕ, _+_, _-_, _*_, _^_, _≤_, _<_}
 use lib.ListN.{length, take, drop, getD}
 use Rattle.codes.specs.Bits.{number, sum, bitsOf}
 use Rattle.codes.specs.Decode.{Decoded, all, undecoded, merged}
@@ -36,6 +36,39 @@ pub record Merging (b : ℕ) (ms bs rests vs : List ℕ) (i kept : ℕ) : Type 0
   pub ones : kept ≡ sum (take i ms)
   pub unused : (q : ℕ) → q < kept → getD vs q 0 ≡ getD rests q 0
   pub done : (q : ℕ) → i ≤ q → q < length ms → getD vs q 0 ≡ getD (merged b ms bs rests) q 0
+
+-- a step of the merge of the layer at bit `at`
+abbrev pub Merges : ℕ → List ℕ → ℕ → ℕ → List ℕ → ℕ → ℕ → List ℕ → ℕ → ℕ → Type 0
+Merges b bytes at n vs i kept vs' i' kept' =
+    (rests : List ℕ) → Merging b (continuationsAt bytes at n) (chunksAt bytes at n) rests vs i kept
+    → Merging b (continuationsAt bytes at n) (chunksAt bytes at n) rests vs' i' kept'
+
+-- the k values from value `from` on of that layer are merged next, and `kept` of the rests are not used yet
+pub record LayerGroup (b : ℕ) (bytes vs : List ℕ) (at n from k kept : ℕ) : Type 0 where
+  pub some : 1 ≤ b
+  pub few : b ≤ 8
+  pub inside : from + k ≤ n
+  pub room : n ≤ length vs
+  pub whole : at + n + n * b ≤ length bytes * 8
+  pub ones : kept ≡ sum (take (from + k) (continuationsAt bytes at n))
+  pub small : Small b vs kept
+
+-- their continuation bits in a word, one bit each, and their chunks
+abbrev pub continuationWord : List ℕ → ℕ → ℕ → ℕ → ℕ
+continuationWord bytes at from k = number (take (k * 1) (drop (at + from) (bitsOf bytes)))
+
+abbrev pub chunkWord : ℕ → List ℕ → ℕ → ℕ → ℕ → ℕ → ℕ
+chunkWord b bytes at n from k = number (take (k * b) (drop (at + n + from * b) (bitsOf bytes)))
+
+-- the values from i up to j are their chunks alone
+abbrev pub Alone : ℕ → List ℕ → List ℕ → ℕ → ℕ → Type 0
+Alone b bs vs i j = (q : ℕ) → i ≤ q → q < j → getD vs q 0 ≡ number (take b (drop (q * b) bs))
+
+-- only they are written
+pub record Put (b : ℕ) (bs vs : List ℕ) (i j : ℕ) (vs' : List ℕ) : Type 0 where
+  pub alone : Alone b bs vs' i j
+  pub before : (q : ℕ) → q < i → getD vs' q 0 ≡ getD vs q 0
+  pub after : (q : ℕ) → j ≤ q → getD vs' q 0 ≡ getD vs q 0
 
 -- an answer and a buffer's content, by what decoding finds
 abbrev pub Says : Decoded → Bool → List ℕ → Type 0

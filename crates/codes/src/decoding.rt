@@ -17,7 +17,7 @@ ghost use lib.ListN.{length, take, drop};
 ghost use Rattle.codes.specs.Bits.{number, sum, bitsOf};
 ghost use Rattle.codes.specs.Radix.{IsRadix};
 ghost use Rattle.codes.specs.Decode.{merged, fromOne, decodedLayers, kindDecoded, decoded, isDecoded, decodedOr0};
-ghost use Rattle.codes.specs.Merging.{InPart, FixedTo, continuationsAt, chunksAt, Small, Merging, Says};
+ghost use Rattle.codes.specs.Merging.{InPart, FixedTo, continuationsAt, chunksAt, continuationWord, chunkWord, Small, LayerGroup, Alone, Put, Merges, Says};
 ghost use Rattle.codes.specs.declared.kinds.Kind.the-variants.{Fixed};
 
 // A value of 32 bits has at most 32 chunks.
@@ -120,8 +120,209 @@ fn all_small(values: &[u32], n: usize, b: usize) -> bool
     true
 }
 
-// Merges `k` values of the layer from value `from` on, the last first: a value is its chunk and, where its continuation bit is 1, the
-// last rest that is not used yet above that. The bits of all k are read at once. Gives how many rests are left.
+// Merges a group of `k` values from value `from` on one by one, the last first: a value is its chunk and, where its continuation bit is
+// 1, the last rest that is not used yet above that. Gives how many rests are left. The part, of which `mores` and `chunks` have the
+// group's bits, is there for the contract.
+fn merge_each(
+    values: &mut [u32],
+    part: &[u8],
+    radix: Radix,
+    at: usize,
+    n: usize,
+    from: usize,
+    k: usize,
+    kept: usize,
+    mores: u64,
+    chunks: u64,
+) -> usize
+    requires { ⌜ IsRadix radix × LayerGroup (radix .bits) (now part) (now values) at n from k kept × (mores ≡ continuationWord (now part) at from k) × (chunks ≡ chunkWord (radix .bits) (now part) at n from k) ⌝ }
+    ensures { λ r. ⌜ Merges (radix .bits) (now (part .entry)) at n (now (values .entry)) (from + k) kept (now (values .exit)) from r ⌝ }
+{
+    let b = radix.bits;
+    let power = radix.power;
+    let mut mores = mores;
+    let mut chunks = chunks;
+    let mut kept = kept;
+    let mut j = k;
+    while j > 0 {
+        j -= 1;
+        let more = mores % 2;
+        kept -= more as usize;
+        let above = wide_value(values[kept]) * more;
+        values[from + j] = (above * power + low_bits(chunks, b)) as u32;
+        mores = mores / 2;
+        chunks = chunks >> b;
+    }
+    kept
+}
+
+// The same, with a small width of chunks as a constant, by which the compiler makes faster shifts.
+fn merge_many(
+    values: &mut [u32],
+    part: &[u8],
+    radix: Radix,
+    at: usize,
+    n: usize,
+    from: usize,
+    k: usize,
+    kept: usize,
+    mores: u64,
+    chunks: u64,
+) -> usize
+    requires { ⌜ IsRadix radix × LayerGroup (radix .bits) (now part) (now values) at n from k kept × (mores ≡ continuationWord (now part) at from k) × (chunks ≡ chunkWord (radix .bits) (now part) at n from k) ⌝ }
+    ensures { λ r. ⌜ Merges (radix .bits) (now (part .entry)) at n (now (values .entry)) (from + k) kept (now (values .exit)) from r ⌝ }
+{
+    let b = radix.bits;
+    match b {
+        1 => merge_each(
+            values,
+            part,
+            radix_of(1),
+            at,
+            n,
+            from,
+            k,
+            kept,
+            mores,
+            chunks,
+        ),
+        2 => merge_each(
+            values,
+            part,
+            radix_of(2),
+            at,
+            n,
+            from,
+            k,
+            kept,
+            mores,
+            chunks,
+        ),
+        3 => merge_each(
+            values,
+            part,
+            radix_of(3),
+            at,
+            n,
+            from,
+            k,
+            kept,
+            mores,
+            chunks,
+        ),
+        4 => merge_each(
+            values,
+            part,
+            radix_of(4),
+            at,
+            n,
+            from,
+            k,
+            kept,
+            mores,
+            chunks,
+        ),
+        _ => merge_each(values, part, radix, at, n, from, k, kept, mores, chunks),
+    }
+}
+
+// Writes the chunks of a group, the last first.
+fn put_each(
+    values: &mut [u32],
+    part: &[u8],
+    b: usize,
+    at: usize,
+    n: usize,
+    from: usize,
+    k: usize,
+    chunks: u64,
+)
+    requires { ⌜ (b ≤ 8) × (from + k ≤ length (now values)) × (at + n + (from + k) * b ≤ length (now part) * 8) × (chunks ≡ chunkWord b (now part) at n from k) ⌝ }
+    ensures { λ r. ⌜ Put b (chunksAt (now (part .entry)) at n) (now (values .entry)) from (from + k) (now (values .exit)) ⌝ }
+{
+    let mut chunks = chunks;
+    let mut j = k;
+    while j > 0 {
+        j -= 1;
+        values[from + j] = low_bits(chunks, b) as u32;
+        chunks = chunks >> b;
+    }
+}
+
+// The same, with a small width of chunks as a constant.
+fn put_chunks(
+    values: &mut [u32],
+    part: &[u8],
+    b: usize,
+    at: usize,
+    n: usize,
+    from: usize,
+    k: usize,
+    chunks: u64,
+)
+    requires { ⌜ (b ≤ 8) × (from + k ≤ length (now values)) × (at + n + (from + k) * b ≤ length (now part) * 8) × (chunks ≡ chunkWord b (now part) at n from k) ⌝ }
+    ensures { λ r. ⌜ Put b (chunksAt (now (part .entry)) at n) (now (values .entry)) from (from + k) (now (values .exit)) ⌝ }
+{
+    match b {
+        1 => put_each(values, part, 1, at, n, from, k, chunks),
+        2 => put_each(values, part, 2, at, n, from, k, chunks),
+        3 => put_each(values, part, 3, at, n, from, k, chunks),
+        4 => put_each(values, part, 4, at, n, from, k, chunks),
+        _ => put_each(values, part, b, at, n, from, k, chunks),
+    }
+}
+
+// Puts rests above the chunks of a group, where the continuation bit is 1: the lowest 1 of `mores` each time, which is the last value's.
+fn add_rests(
+    values: &mut [u32],
+    part: &[u8],
+    b: usize,
+    at: usize,
+    n: usize,
+    from: usize,
+    k: usize,
+    kept: usize,
+    mores: u64,
+) -> usize
+    requires { ⌜ LayerGroup b (now part) (now values) at n from k kept × (mores ≡ continuationWord (now part) at from k) ⌝ }
+    requires { ⌜ (k < 64) × Alone b (chunksAt (now part) at n) (now values) from (from + k) ⌝ }
+    ensures { λ r. ⌜ Merges b (now (part .entry)) at n (now (values .entry)) (from + k) kept (now (values .exit)) from r ⌝ }
+{
+    let end = from + k;
+    let mut mores = mores;
+    let mut kept = kept;
+    while mores > 0 {
+        kept -= 1;
+        let i = end - 1 - u64::trailing_zeros(mores) as usize;
+        values[i] = ((wide_value(values[kept]) << b) + wide_value(values[i])) as u32;
+        mores = mores & (mores - 1);
+    }
+    kept
+}
+
+// Merges a group that no rest stands in, its chunks first. It takes no time for a continuation bit that is 0.
+fn merge_few(
+    values: &mut [u32],
+    part: &[u8],
+    b: usize,
+    at: usize,
+    n: usize,
+    from: usize,
+    k: usize,
+    kept: usize,
+    mores: u64,
+    chunks: u64,
+) -> usize
+    requires { ⌜ LayerGroup b (now part) (now values) at n from k kept × (mores ≡ continuationWord (now part) at from k) × (chunks ≡ chunkWord b (now part) at n from k) ⌝ }
+    requires { ⌜ (k < 64) × (kept ≤ from) ⌝ }
+    ensures { λ r. ⌜ Merges b (now (part .entry)) at n (now (values .entry)) (from + k) kept (now (values .exit)) from r ⌝ }
+{
+    put_chunks(values, part, b, at, n, from, k, chunks);
+    add_rests(values, part, b, at, n, from, k, kept, mores)
+}
+
+// Merges `k` values of the layer from value `from` on, whose bits are read at once. Where many have a rest, it is faster to merge each as
+// if it had one. Gives how many rests are left.
 fn merge_group(
     values: &mut [u32],
     part: &[u8],
@@ -135,26 +336,15 @@ fn merge_group(
     requires { ⌜ (1 ≤ radix .bits) × (radix .bits ≤ 8) × IsRadix radix × (1 ≤ k) × (k * radix .bits ≤ 56) × (from + k ≤ n) ⌝ }
     requires { ⌜ (n ≤ length (now values)) × (at + n + n * radix .bits ≤ length (now part) * 8) × (length (now part) < 2 ^ 32) ⌝ }
     requires { ⌜ (kept ≡ sum (take (from + k) (continuationsAt (now part) at n))) × Small (radix .bits) (now values) kept ⌝ }
-    ensures { λ r. ⌜ ((rests : List ℕ)
-        → Merging (radix .bits) (continuationsAt (now (part .entry)) at n) (chunksAt (now (part .entry)) at n) rests (now (values .entry)) (from + k) kept
-        → Merging (radix .bits) (continuationsAt (now (part .entry)) at n) (chunksAt (now (part .entry)) at n) rests (now (values .exit)) from r) ⌝ }
+    ensures { λ r. ⌜ Merges (radix .bits) (now (part .entry)) at n (now (values .entry)) (from + k) kept (now (values .exit)) from r ⌝ }
 {
     let b = radix.bits;
-    let power = radix.power;
-    let mut mores = read(part, at + from, k);
-    let mut chunks = read(part, at + n + from * b, k * b);
-    let mut kept = kept;
-    let mut j = k;
-    while j > 0 {
-        j -= 1;
-        let more = mores % 2;
-        kept -= more as usize;
-        let above = wide_value(values[kept]) * more;
-        values[from + j] = (above * power + low_bits(chunks, b)) as u32;
-        mores = mores / 2;
-        chunks = chunks >> b;
+    let mores = read(part, at + from, k);
+    let chunks = read(part, at + n + from * b, k * b);
+    if kept > from || u64::count_ones(mores) as usize * 3 > k {
+        return merge_many(values, part, radix, at, n, from, k, kept, mores, chunks);
     }
-    kept
+    merge_few(values, part, b, at, n, from, k, kept, mores, chunks)
 }
 
 // Merges the layer of `n` values that begins at bit `at` with the `rests`, the values of the layers after it, which stand at the front.
