@@ -156,76 +156,6 @@ fn merge_each(
     kept
 }
 
-// The same, with a small width of chunks as a constant, by which the compiler makes faster shifts.
-fn merge_many(
-    values: &mut [u32],
-    part: &[u8],
-    radix: Radix,
-    at: usize,
-    n: usize,
-    from: usize,
-    k: usize,
-    kept: usize,
-    mores: u64,
-    chunks: u64,
-) -> usize
-    requires { ⌜ IsRadix radix × LayerGroup (radix .bits) (now part) (now values) at n from k kept × (mores ≡ continuationWord (now part) at from k) × (chunks ≡ chunkWord (radix .bits) (now part) at n from k) ⌝ }
-    ensures { λ r. ⌜ Merges (radix .bits) (now (part .entry)) at n (now (values .entry)) (from + k) kept (now (values .exit)) from r ⌝ }
-{
-    let b = radix.bits;
-    match b {
-        1 => merge_each(
-            values,
-            part,
-            radix_of(1),
-            at,
-            n,
-            from,
-            k,
-            kept,
-            mores,
-            chunks,
-        ),
-        2 => merge_each(
-            values,
-            part,
-            radix_of(2),
-            at,
-            n,
-            from,
-            k,
-            kept,
-            mores,
-            chunks,
-        ),
-        3 => merge_each(
-            values,
-            part,
-            radix_of(3),
-            at,
-            n,
-            from,
-            k,
-            kept,
-            mores,
-            chunks,
-        ),
-        4 => merge_each(
-            values,
-            part,
-            radix_of(4),
-            at,
-            n,
-            from,
-            k,
-            kept,
-            mores,
-            chunks,
-        ),
-        _ => merge_each(values, part, radix, at, n, from, k, kept, mores, chunks),
-    }
-}
-
 // Writes the chunks of a group, the last first.
 fn put_each(
     values: &mut [u32],
@@ -246,29 +176,6 @@ fn put_each(
         j -= 1;
         values[from + j] = low_bits(chunks, b) as u32;
         chunks = chunks >> b;
-    }
-}
-
-// The same, with a small width of chunks as a constant.
-fn put_chunks(
-    values: &mut [u32],
-    part: &[u8],
-    b: usize,
-    at: usize,
-    n: usize,
-    from: usize,
-    k: usize,
-    chunks: u64,
-)
-    requires { ⌜ (b ≤ 8) × (from + k ≤ length (now values)) × (at + n + (from + k) * b ≤ length (now part) * 8) × (chunks ≡ chunkWord b (now part) at n from k) ⌝ }
-    ensures { λ r. ⌜ Put b (chunksAt (now (part .entry)) at n) (now (values .entry)) from (from + k) (now (values .exit)) ⌝ }
-{
-    match b {
-        1 => put_each(values, part, 1, at, n, from, k, chunks),
-        2 => put_each(values, part, 2, at, n, from, k, chunks),
-        3 => put_each(values, part, 3, at, n, from, k, chunks),
-        4 => put_each(values, part, 4, at, n, from, k, chunks),
-        _ => put_each(values, part, b, at, n, from, k, chunks),
     }
 }
 
@@ -317,7 +224,7 @@ fn merge_few(
     requires { ⌜ (k < 64) × (kept ≤ from) ⌝ }
     ensures { λ r. ⌜ Merges b (now (part .entry)) at n (now (values .entry)) (from + k) kept (now (values .exit)) from r ⌝ }
 {
-    put_chunks(values, part, b, at, n, from, k, chunks);
+    put_each(values, part, b, at, n, from, k, chunks);
     add_rests(values, part, b, at, n, from, k, kept, mores)
 }
 
@@ -342,7 +249,7 @@ fn merge_group(
     let mores = read(part, at + from, k);
     let chunks = read(part, at + n + from * b, k * b);
     if kept > from || u64::count_ones(mores) as usize * 3 > k {
-        return merge_many(values, part, radix, at, n, from, k, kept, mores, chunks);
+        return merge_each(values, part, radix, at, n, from, k, kept, mores, chunks);
     }
     merge_few(values, part, b, at, n, from, k, kept, mores, chunks)
 }
@@ -363,6 +270,21 @@ fn merge(values: &mut [u32], part: &[u8], b: usize, at: usize, n: usize, rests: 
         let k = least(i, room);
         i -= k;
         kept = merge_group(values, part, radix, at, n, i, k, kept);
+    }
+}
+
+// The same, with a small width as a constant: the compiler makes faster shifts of it.
+fn merge_layer(values: &mut [u32], part: &[u8], b: usize, at: usize, n: usize, rests: usize)
+    requires { ⌜ (1 ≤ b) × (b ≤ 8) × (n ≤ length (now values)) × (length (now part) < 2 ^ 32) × (at + n + n * b ≤ length (now part) * 8) ⌝ }
+    requires { ⌜ (rests ≡ sum (continuationsAt (now part) at n)) × Small b (now values) rests ⌝ }
+    ensures { λ r. ⌜ take n (now (values .exit)) ≡ merged b (continuationsAt (now (part .entry)) at n) (chunksAt (now (part .entry)) at n) (take rests (now (values .entry))) ⌝ }
+{
+    match b {
+        1 => merge(values, part, 1, at, n, rests),
+        2 => merge(values, part, 2, at, n, rests),
+        3 => merge(values, part, 3, at, n, rests),
+        4 => merge(values, part, 4, at, n, rests),
+        _ => merge(values, part, b, at, n, rests),
     }
 }
 
@@ -394,7 +316,7 @@ fn decode_layers(
     if !all_small(values, rests, b) {
         return false;
     }
-    merge(values, part, b, at, n, rests);
+    merge_layer(values, part, b, at, n, rests);
     true
 }
 
