@@ -16,6 +16,7 @@ pub mod Lists
 pub mod Merges
 pub mod Parts
 pub mod Promises
+pub mod Streams
 pub mod Tallies
 pub mod Turns
 pub mod Widths

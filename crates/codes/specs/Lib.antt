@@ -1,5 +1,5 @@
 -- What the level codes mean. A reader of the public contracts needs Lists, Bits, Codes, Choice, Fetch and Decode; Marked has
--- the marked parts, Promises what is shown besides the contracts. Measure, Written, Radix and Merging are cited by private functions
+-- the marked parts, Promises what is shown besides the contracts. Measure, Written, Radix, Merging and Streams are cited by private functions
 -- alone.
 pub mod Lists
 pub mod Bits
@@ -13,3 +13,4 @@ pub mod Measure
 pub mod Written
 pub mod Radix
 pub mod Merging
+pub mod Streams

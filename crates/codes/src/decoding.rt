@@ -1,10 +1,10 @@
 // All values of a level at once, from the level's part alone.
+use super::counting::count_ones;
 use super::encoding::clear;
 use super::kinds::Kind;
 use super::kinds::kind_of;
 use super::layering::Radix;
 use super::layering::radix_of;
-use super::reading::count_ones;
 use super::reading::least;
 use super::reading::low_bits;
 use super::reading::read;

@@ -1,7 +1,7 @@
 // One value of a level, from the level's part alone.
+use super::counting::count_ones;
 use super::kinds::Kind;
 use super::kinds::kind_of;
-use super::reading::count_ones;
 use super::reading::least;
 use super::reading::read;
 use super::reading::read_short;

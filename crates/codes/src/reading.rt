@@ -1,9 +1,8 @@
-// Bits of a part, read by whole bytes and counted by 64-bit words.
+// Bits of a part, read by whole bytes.
 ghost use mathlib.Core.Path.{_≡_};
 ghost use Prim.Native.Nat.{_+_, _*_, _-_, _%_, _^_, _<_, _≤_, min};
-ghost use lib.Count.{ones};
 ghost use lib.ListN.{length, take, drop, getD};
-ghost use Rattle.codes.specs.Bits.{number, sum, bitsOf};
+ghost use Rattle.codes.specs.Bits.{number, bitsOf};
 
 fn wide_byte(x: u8) -> u32
     ensures { λ r. ⌜ (r < 256) × (r ≡ x) ⌝ }
@@ -102,61 +101,4 @@ pub(crate) fn read_short(part: &[u8], at: usize, w: usize) -> u32
         four_bytes(part, first) as u64 >> (32 - (at - first * 8) - w),
         w,
     ) as u32
-}
-
-// How many of the `w` bits from bit `at` on are 1.
-fn ones_at(part: &[u8], at: usize, w: usize) -> usize
-    requires { ⌜ (w < 64) × (at % 8 + w ≤ 64) ⌝ }
-    requires { ⌜ at + w ≤ length (now part) * 8 ⌝ }
-    ensures { λ r. ⌜ (r ≤ w) × (r ≡ sum (take w (drop at (bitsOf (now (part .entry)))))) ⌝ }
-{
-    if w == 0 {
-        return 0;
-    }
-    u64::count_ones(read(part, at, w)) as usize
-}
-
-// A word with the ones of the 8 bytes from byte `first` on. Their order is no matter for a count, and in this one they are
-// one load.
-fn ones_word(part: &[u8], first: usize) -> u64
-    requires { ⌜ first + 8 ≤ length (now part) ⌝ }
-    ensures { λ r. ⌜ ones r ≡ sum (take 64 (drop (first * 8) (bitsOf (now (part .entry))))) ⌝ }
-{
-    let low = byte(part, first)
-        + byte(part, first + 1) * 256
-        + byte(part, first + 2) * 65536
-        + byte(part, first + 3) * 16777216;
-    low
-        + byte(part, first + 4) * 4294967296
-        + byte(part, first + 5) * 1099511627776
-        + byte(part, first + 6) * 281474976710656
-        + byte(part, first + 7) * 72057594037927936
-}
-
-// How many bits are 1 in the words from byte `first` on.
-fn ones_in_words(part: &[u8], first: usize, words: usize) -> usize
-    requires { ⌜ (first + words * 8 ≤ length (now part)) × (length (now part) < 2 ^ 32) ⌝ }
-    ensures { λ r. ⌜ (r ≤ words * 64) × (r ≡ sum (take (words * 64) (drop (first * 8) (bitsOf (now (part .entry)))))) ⌝ }
-{
-    let mut count: usize = 0;
-    let mut i: usize = 0;
-    while i < words {
-        count += u64::count_ones(ones_word(part, first + i * 8)) as usize;
-        i += 1;
-    }
-    count
-}
-
-// How many of the bits from `from` up to `to` are 1: those up to a whole byte, whole words, and what is left.
-pub(crate) fn count_ones(part: &[u8], from: usize, to: usize) -> usize
-    requires { ⌜ (from ≤ to) × (to ≤ length (now part) * 8) × (length (now part) < 2 ^ 32) ⌝ }
-    ensures { λ r. ⌜ (r ≤ to - from) × (r ≡ sum (take (to - from) (drop from (bitsOf (now (part .entry)))))) ⌝ }
-{
-    let head = least(to - from, 7 - (from + 7) % 8);
-    let start = from + head;
-    let words = (to - start) / 64;
-    let tail = start + words * 64;
-    ones_at(part, from, head)
-        + ones_in_words(part, start / 8, words)
-        + ones_at(part, tail, to - tail)
 }

@@ -15,8 +15,8 @@ use borrow.Fn.PlainCycle.{Measures, is, falls, and}
 use Rattle.codes.proofs.decoding.decode_layers.Reads as reads
 use Rattle.codes.proofs.decoding.decode_layers.Kinds as kinds
 use Rattle.codes.proofs.decoding.+decode_layers.Lts-decode_layers as lts
-use Rattle.codes.proofs.reading.count_ones.Kinds as count-ones-kinds
-use Rattle.codes.proofs.reading.count_ones.Reads as count-ones-reads
+use Rattle.codes.proofs.counting.count_ones.Kinds as count-ones-kinds
+use Rattle.codes.proofs.counting.count_ones.Reads as count-ones-reads
 use Rattle.codes.proofs.decoding.all_small.Kinds as all-small-kinds
 use Rattle.codes.proofs.decoding.all_small.Reads as all-small-reads
 use Rattle.codes.proofs.decoding.merge_layer.Kinds as merge-layer-kinds

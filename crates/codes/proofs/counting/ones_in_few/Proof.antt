@@ -1,12 +1,13 @@
--- `ones_in_words` meets its contract.
+-- `ones_in_few` meets its contract.
+use borrow.Author.Needs.{needs}
 use mathlib.Core.Path.{_≡_, refl}
 use Prim.Native.Nat.{_≤_, _*_, _-_, _+_}
 use native.Mathlib.Omega.{arith}
 use lib.ListN.{take, drop}
 use Rattle.codes.specs.Bits.{sum, bitsOf}
 use Rattle.codes.proofs.Words.{ones-more, sum-part-le}
-use Rattle.codes.proofs.reading.ones_in_words.Statement.{statement}
-use Rattle.codes.proofs.reading.ones_in_words.Tie as tie
+use Rattle.codes.proofs.counting.ones_in_few.Statement.{statement}
+use Rattle.codes.proofs.counting.ones_in_few.Tie as tie
 
 abbrev Inv-loop : tie.InvT-loop
 Inv-loop part first words count₀ i₀ count i = (i ≤ words) × (count ≤ i * 64) × (count ≡ sum (take (i * 64) (drop (first * 8) (bitsOf part))))
@@ -27,17 +28,11 @@ add-ones-word c = omega arith
 ones-word-requires : tie.Need-ones-word-requires Inv-loop μ-loop
 ones-word-requires c κs = omega arith
 
-cast-count : tie.Need-cast-count Inv-loop μ-loop
-cast-count c =
-    let a = c .before .before .before .before .args in
-    let at = (a .first + c .before .before .loop .i * 8) * 8 in
-    rw (c .ones-word .ensures) (omega (arith, sum-part-le (a .part .now) at 64))
+ones-of-requires : tie.Need-ones-of-requires Inv-loop μ-loop
+ones-of-requires c κs = search needs
 
 add-count : tie.Need-add-count Inv-loop μ-loop
-add-count c =
-    let a = c .before .before .before .before .args in
-    let at = (a .first + c .before .before .loop .i * 8) * 8 in
-    rw (c .ones-word .ensures) (omega (arith, sum-part-le (a .part .now) at 64))
+add-count c = omega arith
 
 add-i : tie.Need-add-i Inv-loop μ-loop
 add-i c = omega arith
@@ -47,21 +42,21 @@ loop-less c = omega arith
 
 loop-again : tie.Need-loop-again Inv-loop μ-loop
 loop-again c =
-    let a = c .before .before .before .before .args in
-    let i = c .before .before .loop .i in
+    let a = c .before .before .before .before .before .args in
+    let i = c .before .before .before .loop .i in
     let at = (a .first + i * 8) * 8 in
     let e : (i + 1) * 64 ≡ i * 64 + 64 = omega arith in
     let e' : a .first * 8 + i * 64 ≡ at = omega arith in
     let more = rw e' at (ones-more (a .part .now) (a .first * 8) (i * 64) 64) in
-    rw (c .ones-word .ensures, e, more) (omega arith, omega (arith, sum-part-le (a .part .now) at 64), omega arith)
+    rw (e, more) (omega arith, omega arith, omega (arith, c .before .ones-word .ensures))
 
 returns : tie.Need-returns Inv-loop μ-loop
 returns c =
     let e : c .before .loop .i ≡ c .before .before .before .args .words = omega arith in
     (rw e at (c .before .loop .inv .1), rw e at (c .before .loop .inv .2))
 
-pub ones-in-words-spec : {M : Type 1} → statement M
-ones-in-words-spec =
+pub ones-in-few-spec : {M : Type 1} → statement M
+ones-in-few-spec =
     tie.close
     (tie.spec
     Inv-loop
@@ -70,7 +65,7 @@ ones-in-words-spec =
     mul-ones-word
     add-ones-word
     ones-word-requires
-    cast-count
+    ones-of-requires
     add-count
     add-i
     loop-less

@@ -5,8 +5,8 @@ use lib.Count.{ones}
 use Rattle.codes.specs.Bits.{sum}
 use Rattle.codes.proofs.Words.{ones-part, sum-part-le}
 use borrow.Author.Needs.{needs}
-use Rattle.codes.proofs.reading.ones_at.Statement.{statement}
-use Rattle.codes.proofs.reading.ones_at.Tie as tie
+use Rattle.codes.proofs.counting.ones_at.Statement.{statement}
+use Rattle.codes.proofs.counting.ones_at.Tie as tie
 
 returns : tie.Need-returns
 unfolding sum
@@ -15,16 +15,14 @@ returns c = rw (c .if1 .taken) (omega arith, refl)
 read-requires : tie.Need-read-requires
 read-requires c κs = search needs
 
-cast-result : tie.Need-cast-result
-cast-result c =
-    let a = c .before .before .before .args in
-    rw (c .read .ensures .1, ones-part (a .part .now) (a .at) (a .w)) (omega (arith, sum-part-le (a .part .now) (a .at) (a .w)))
+ones-of-requires : tie.Need-ones-of-requires
+ones-of-requires c κs = search needs
 
 returns-2 : tie.Need-returns-2
 returns-2 c =
-    let a = c .before .before .before .args in
-    let e = ap ones (c .read .ensures .1) ∙ ones-part (a .part .now) (a .at) (a .w) in
+    let a = c .before .before .before .before .args in
+    let e = c .ones-of .ensures .1 ∙ ap ones (c .before .read .ensures .1) ∙ ones-part (a .part .now) (a .at) (a .w) in
     (omega (arith, sum-part-le (a .part .now) (a .at) (a .w)), e)
 
 pub ones-at-spec : {M : Type 1} → statement M
-ones-at-spec = tie.close (tie.spec returns read-requires cast-result returns-2)
+ones-at-spec = tie.close (tie.spec returns read-requires ones-of-requires returns-2)

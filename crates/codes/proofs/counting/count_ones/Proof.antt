@@ -4,8 +4,8 @@ use mathlib.Core.Path.{_≡_}
 use Prim.Native.Nat.{ℕ, _+_, _-_, _*_, _/_, _≤_}
 use Rattle.codes.proofs.Words.{ones-more, ones-whole, whole-byte}
 use borrow.Author.Needs.{needs}
-use Rattle.codes.proofs.reading.count_ones.Statement.{statement}
-use Rattle.codes.proofs.reading.count_ones.Tie as tie
+use Rattle.codes.proofs.counting.count_ones.Statement.{statement}
+use Rattle.codes.proofs.counting.count_ones.Tie as tie
 
 parts : (from to h w : ℕ) → from + h + w ≤ to → to - from ≡ h + (w + (to - (from + h + w)))
 parts from to h w l = omega arith

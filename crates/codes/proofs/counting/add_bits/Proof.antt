@@ -1,0 +1,13 @@
+-- `add_bits` meets its contract.
+use native.Mathlib.Omega.{arith}
+use Rattle.codes.proofs.Streams.{ones-added}
+use Rattle.codes.proofs.counting.add_bits.Statement.{statement}
+use Rattle.codes.proofs.counting.add_bits.Tie as tie
+
+returns : tie.Need-returns
+returns c =
+    let a = c .args in
+    ones-added 64 (a .a) (a .b) (a .c) (omega arith) (omega arith) (omega arith)
+
+pub add-bits-spec : {M : Type 1} → statement M
+add-bits-spec = tie.close (tie.spec returns)
