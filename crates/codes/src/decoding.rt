@@ -103,21 +103,20 @@ fn decode_fixed(values: &mut [u32], part: &[u8], w: usize) -> bool
     true
 }
 
-// Whether the first `n` values are at least 1 and below 2 to the power of 32 - `b`, so that b bits more leave them values. Of 0 one less
-// wraps, and is no less than any limit.
+// Whether the first `n` values are at least 1 and below 2 to the power of 32 - `b`, so that b bits more leave them values. Of such a value
+// one less is below that, too; of 0 it wraps and has all bits. So one word tells of all, and there is no branch for each.
 fn all_small(values: &[u32], n: usize, b: usize) -> bool
     requires { ⌜ (1 ≤ b) × (b ≤ 8) × (n ≤ length (now values)) ⌝ }
     ensures { λ r. ⌜ r ≡ fromOne (2 ^ (32 - b)) (take n (now (values .entry))) ⌝ }
 {
-    let limit = (1u32 << (32 - b)) - 1;
+    let mut joined: u32 = 0;
     let mut i: usize = 0;
     while i < n {
-        if std::num::wrapping_sub_u32(values[i], 1) >= limit {
-            return false;
-        }
+        let v = values[i];
+        joined = joined | v | std::num::wrapping_sub_u32(v, 1);
         i += 1;
     }
-    true
+    joined >> (32 - b) == 0
 }
 
 // Merges a group of `k` values from value `from` on one by one, the last first: a value is its chunk and, where its continuation bit is
@@ -154,6 +153,76 @@ fn merge_each(
         chunks = chunks >> b;
     }
     kept
+}
+
+// The same, with the small widths as constants, of which the compiler makes faster shifts.
+fn merge_many(
+    values: &mut [u32],
+    part: &[u8],
+    radix: Radix,
+    at: usize,
+    n: usize,
+    from: usize,
+    k: usize,
+    kept: usize,
+    mores: u64,
+    chunks: u64,
+) -> usize
+    requires { ⌜ IsRadix radix × LayerGroup (radix .bits) (now part) (now values) at n from k kept × (mores ≡ continuationWord (now part) at from k) × (chunks ≡ chunkWord (radix .bits) (now part) at n from k) ⌝ }
+    ensures { λ r. ⌜ Merges (radix .bits) (now (part .entry)) at n (now (values .entry)) (from + k) kept (now (values .exit)) from r ⌝ }
+{
+    let b = radix.bits;
+    match b {
+        1 => merge_each(
+            values,
+            part,
+            radix_of(1),
+            at,
+            n,
+            from,
+            k,
+            kept,
+            mores,
+            chunks,
+        ),
+        2 => merge_each(
+            values,
+            part,
+            radix_of(2),
+            at,
+            n,
+            from,
+            k,
+            kept,
+            mores,
+            chunks,
+        ),
+        3 => merge_each(
+            values,
+            part,
+            radix_of(3),
+            at,
+            n,
+            from,
+            k,
+            kept,
+            mores,
+            chunks,
+        ),
+        4 => merge_each(
+            values,
+            part,
+            radix_of(4),
+            at,
+            n,
+            from,
+            k,
+            kept,
+            mores,
+            chunks,
+        ),
+        _ => merge_each(values, part, radix, at, n, from, k, kept, mores, chunks),
+    }
 }
 
 // Writes the chunks of a group, the last first.
@@ -249,7 +318,7 @@ fn merge_group(
     let mores = read(part, at + from, k);
     let chunks = read(part, at + n + from * b, k * b);
     if kept > from || u64::count_ones(mores) as usize * 3 > k {
-        return merge_each(values, part, radix, at, n, from, k, kept, mores, chunks);
+        return merge_many(values, part, radix, at, n, from, k, kept, mores, chunks);
     }
     merge_few(values, part, b, at, n, from, k, kept, mores, chunks)
 }
@@ -270,21 +339,6 @@ fn merge(values: &mut [u32], part: &[u8], b: usize, at: usize, n: usize, rests: 
         let k = least(i, room);
         i -= k;
         kept = merge_group(values, part, radix, at, n, i, k, kept);
-    }
-}
-
-// The same, with a small width as a constant: the compiler makes faster shifts of it.
-fn merge_layer(values: &mut [u32], part: &[u8], b: usize, at: usize, n: usize, rests: usize)
-    requires { ⌜ (1 ≤ b) × (b ≤ 8) × (n ≤ length (now values)) × (length (now part) < 2 ^ 32) × (at + n + n * b ≤ length (now part) * 8) ⌝ }
-    requires { ⌜ (rests ≡ sum (continuationsAt (now part) at n)) × Small b (now values) rests ⌝ }
-    ensures { λ r. ⌜ take n (now (values .exit)) ≡ merged b (continuationsAt (now (part .entry)) at n) (chunksAt (now (part .entry)) at n) (take rests (now (values .entry))) ⌝ }
-{
-    match b {
-        1 => merge(values, part, 1, at, n, rests),
-        2 => merge(values, part, 2, at, n, rests),
-        3 => merge(values, part, 3, at, n, rests),
-        4 => merge(values, part, 4, at, n, rests),
-        _ => merge(values, part, b, at, n, rests),
     }
 }
 
@@ -316,7 +370,7 @@ fn decode_layers(
     if !all_small(values, rests, b) {
         return false;
     }
-    merge_layer(values, part, b, at, n, rests);
+    merge(values, part, b, at, n, rests);
     true
 }
 

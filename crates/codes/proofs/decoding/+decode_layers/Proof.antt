@@ -19,8 +19,8 @@ use Rattle.codes.proofs.counting.count_ones.Kinds as count-ones-kinds
 use Rattle.codes.proofs.counting.count_ones.Reads as count-ones-reads
 use Rattle.codes.proofs.decoding.all_small.Kinds as all-small-kinds
 use Rattle.codes.proofs.decoding.all_small.Reads as all-small-reads
-use Rattle.codes.proofs.decoding.merge_layer.Kinds as merge-layer-kinds
-use Rattle.codes.proofs.decoding.merge_layer.Reads as merge-layer-reads
+use Rattle.codes.proofs.decoding.merge.Kinds as merge-kinds
+use Rattle.codes.proofs.decoding.merge.Reads as merge-reads
 use Rattle.codes.proofs.decoding.+decode_layers.{statement}
 use Rattle.codes.proofs.decoding.+decode_layers.Tie.{close}
 
@@ -34,8 +34,8 @@ abbrev asked : ℕ → In 2 kinds.ps
 asked t = and 2 kinds.ps (falls 2 kinds.ps _<_ μ t) reads.Pre
 
 -- what is asked of the callees, and learnt from them
-abbrev calls : ℕ → In 1 count-ones-kinds.ps × Out 1 count-ones-kinds.ps count-ones-kinds.r × In 2 kinds.ps × Out 2 kinds.ps kinds.r × In 1 all-small-kinds.ps × Out 1 all-small-kinds.ps all-small-kinds.r × In 2 merge-layer-kinds.ps × Out 2 merge-layer-kinds.ps merge-layer-kinds.r
-calls t = (count-ones-reads.Asked, count-ones-reads.Learnt, asked t, reads.Post, all-small-reads.Asked, all-small-reads.Learnt, merge-layer-reads.Asked, merge-layer-reads.Learnt)
+abbrev calls : ℕ → In 1 count-ones-kinds.ps × Out 1 count-ones-kinds.ps count-ones-kinds.r × In 2 kinds.ps × Out 2 kinds.ps kinds.r × In 1 all-small-kinds.ps × Out 1 all-small-kinds.ps all-small-kinds.r × In 2 merge-kinds.ps × Out 2 merge-kinds.ps merge-kinds.r
+calls t = (count-ones-reads.Asked, count-ones-reads.Learnt, asked t, reads.Post, all-small-reads.Asked, all-small-reads.Learnt, merge-reads.Asked, merge-reads.Learnt)
 
 returns : (t : ℕ) → lts.Need-returns (calls t) (given t) reads.Post
 returns t c =
@@ -125,8 +125,8 @@ returns-5 t c =
     let rests = take (c .before .before .before .before .before .before .before .before .count-ones .result) (d .last .0) in
     rw (layered-at t (c .before .before .before .before .before .before .before .before), says-yes (decodedLayers (a .layers - 1) (a .b) (c .before .before .before .before .before .before .before .before .count-ones .result) (drop (a .at + a .n + a .n * a .b) (bitsOf (a .part .now)))) {r = d .result} rests (not-false (d .result) (c .before .before .before .if4 .left)) (d .ensures), sym (c .before .all-small .ensures) ∙ not-true (c .before .all-small .result) (c .if5 .taken)) refl
 
-merge-layer-requires : (t : ℕ) → lts.Need-merge-layer-requires (calls t) (given t) reads.Post
-merge-layer-requires t c κs =
+merge-requires : (t : ℕ) → lts.Need-merge-requires (calls t) (given t) reads.Post
+merge-requires t c κs =
     let a = c .before .before .before .before .before .before .before .before .before .before .before .before .before .before .before .args in
     let r = c .before .before .before .before .before .before .before .before .before .count-ones in
     let d = c .before .before .before .before .before .before .before .decode-layers .last .0 in
@@ -143,7 +143,7 @@ returns-6 t c =
     let a = c .before .before .before .before .before .before .before .before .before .before .before .before .before .before .before .before .before .before .args in
     let d = c .before .before .before .before .before .before .before .before .before .before .decode-layers in
     let rests = take (c .before .before .before .before .before .before .before .before .before .before .before .before .count-ones .result) (d .last .0) in
-    rw (layered-at t (c .before .before .before .before .before .before .before .before .before .before .before .before), says-yes (decodedLayers (a .layers - 1) (a .b) (c .before .before .before .before .before .before .before .before .before .before .before .before .count-ones .result) (drop (a .at + a .n + a .n * a .b) (bitsOf (a .part .now)))) {r = d .result} rests (not-false (d .result) (c .before .before .before .before .before .before .before .if4 .left)) (d .ensures), sym (c .before .before .before .before .before .all-small .ensures) ∙ not-false (c .before .before .before .before .before .all-small .result) (c .before .before .before .before .if5 .left)) (refl, c .before .before .merge-layer .ensures)
+    rw (layered-at t (c .before .before .before .before .before .before .before .before .before .before .before .before), says-yes (decodedLayers (a .layers - 1) (a .b) (c .before .before .before .before .before .before .before .before .before .before .before .before .count-ones .result) (drop (a .at + a .n + a .n * a .b) (bitsOf (a .part .now)))) {r = d .result} rests (not-false (d .result) (c .before .before .before .before .before .before .before .if4 .left)) (d .ensures), sym (c .before .before .before .before .before .all-small .ensures) ∙ not-false (c .before .before .before .before .before .all-small .result) (c .before .before .before .before .if5 .left)) (refl, c .before .before .merge .ensures)
 
 pub +decode-layers-spec : {M : Type 1} → statement M
 +decode-layers-spec = close μ λ t. lts.spec (calls t)
@@ -168,6 +168,6 @@ pub +decode-layers-spec : {M : Type 1} → statement M
     (all-small-requires t)
     (same-length-2 t)
     (returns-5 t)
-    (merge-layer-requires t)
+    (merge-requires t)
     (same-length-3 t)
     (returns-6 t)

@@ -56,8 +56,8 @@ mul-if2 c =
     let a = c .before .before .before .before .before .args in
     omega (arith, ones-le (a .k) (c .before .before .read .result) (c .before .before .read .ensures .0), mul-le-mul-left (a .k) (c .before .before .before .before .before .pre .0 .0))
 
-merge-each-requires : tie.Need-merge-each-requires
-merge-each-requires c κs =
+merge-many-requires : tie.Need-merge-many-requires
+merge-many-requires c κs =
     let g = c .before .before .before .before .before .before in
     let e : g .args .k * 1 ≡ g .args .k = omega arith in
     (g .pre .0 .2, group g, rw e (c .before .before .before .read .ensures .1), c .before .before .read2 .ensures .1)
@@ -94,7 +94,7 @@ merge-group-spec =
     read-requires-2
     cast-if2
     mul-if2
-    merge-each-requires
+    merge-many-requires
     same-length
     returns
     merge-few-requires
