@@ -9,17 +9,17 @@ use native.Mathlib.Omega.{arith}
 use lib.Dec.{ltb}
 use lib.ListN.{length, getD}
 use borrow.Author.Tests.{lt-ltb, le-ltb}
-use Rattle.tree.specs.declared.shape.Stretch.{Stretch}
 use Rattle.tree.specs.declared.nodes.Levels.{Levels}
 use Rattle.tree.specs.declared.targets.Point.{Point}
-use Rattle.tree.specs.Shape.{height, rootPlace, childOf, stretch}
+use Rattle.tree.specs.Shape.{height, childOf, stretch, rank}
 use Rattle.tree.specs.Levels.{Fits}
 use Rattle.tree.specs.Times.{Time, known, timesIn}
-use Rattle.tree.specs.Walks.{Answer, isBelow}
+use Rattle.tree.specs.Walks.{Answer, isBelow, position}
 use Rattle.tree.specs.Sweeps.{Sweep, dropped, positionThen, sweepFrom}
 use Rattle.tree.specs.Standing.{rootOf, Stands}
-use Rattle.tree.specs.Remembering.{Remembered, remembered, entries, keptIn, positionIn, positionBy, leftBy, Keeps, Resumes, Rests, startAt, Between, droppedIn, targetIn, keptAfter}
-use Rattle.tree.proofs.Stretches.{stretch-child, rank-in}
+use Rattle.tree.specs.Remembering.{Remembered, remembered, entries, keptIn, positionBy, leftBy, Keeps, Resumes, Rests, startAt, Between, droppedIn, targetIn, keptAfter}
+use Rattle.tree.proofs.Heights.{place-in}
+use Rattle.tree.proofs.Stretches.{stretch-root, stretch-child, pins-of-node, rank-in}
 use Rattle.tree.proofs.Walks.{child-bounds, parent-of, height-child}
 use Rattle.tree.proofs.NodeFetches.{pins-bound}
 use Rattle.tree.proofs.Remembering.{keeps-few, resumes-root}
@@ -52,8 +52,8 @@ sweepOn levels s w first k ts = sweepFrom (levels .pins) (timesIn levels s) (sta
 -- the next target, with k nodes opened, leaves m nodes remembered and goes on from a point
 pub record GoesOn (levels : Levels) (s : List ℕ) (w : Remembered) (first : Bool) (t k m : ℕ) (from : Point) : Type 0 where
   pub drops : droppedIn levels s w first t ≡ record { from = from .v; kept = entries (w .nodes) m }
-  pub stands : Stands levels s (from .v) (height (from .v) - 1) (from .here) (from .above)
-  pub resumes : Resumes levels s (remembered m (w .nodes) (w .times) (w .ranks)) (from .v) (from .here) k
+  pub stands : Stands levels s (from .v) (height (from .v) - 1) (stretch (levels .pins) (from .v)) (from .above)
+  pub resumes : Resumes levels s (remembered m (w .nodes) (w .times)) (from .v) k
 
 module _ (levels : Levels) (s : List ℕ) where
   abbrev n : ℕ
@@ -101,20 +101,24 @@ module _ (levels : Levels) (s : List ℕ) where
   -- ---- ranks fall from entry to entry
 
   module _ (w : Remembered) (k : Keeps levels s w) where
-    -- since an entry's rank is before the end of its stretch
-    rank-before : (i : ℕ) → i < w .count → getD (w .ranks) i 0 < positionIn (w .ranks) i n
-    rank-before i h =
-        let e = k .entry i h in
-        omega (arith, e .ranked, e .ends, rank-in n (getD (w .nodes) i 0) (e .one) (e .among))
+    -- the position where c nodes are remembered
+    abbrev positionOf : ℕ → ℕ
+    positionOf c = position n (entries (w .nodes) c)
 
-    position-le : (c : ℕ) → c ≤ w .count → positionIn (w .ranks) c n ≤ n
+    -- an entry's rank is before the end of its stretch
+    rank-before : (i : ℕ) → i < w .count → rank n (getD (w .nodes) i 0) < positionOf i
+    rank-before i h = let e = k .entry i h in omega (arith, e .ends, rank-in n (getD (w .nodes) i 0) (e .one) (e .among))
+
+    position-le : (c : ℕ) → c ≤ w .count → positionOf c ≤ n
+    unfolding entries
     position-le zero h = le-refl n
     position-le (suc c) h = omega (arith, rank-before c h, position-le c (omega arith))
 
     pub keeps-before-end : positionBy w n ≤ n
     keeps-before-end = position-le (w .count) (le-refl (w .count))
 
-    position-falls : (c m : ℕ) → c ≤ w .count → m < c → positionIn (w .ranks) c n + c ≤ getD (w .ranks) m 0 + 1 + m
+    position-falls : (c m : ℕ) → c ≤ w .count → m < c → positionOf c + c ≤ rank n (getD (w .nodes) m 0) + 1 + m
+    unfolding entries
     position-falls zero m h l = absurd (omega arith)
     position-falls (suc c) m h l = elim (decLt m c) [
       | yes x ↦ omega (arith, position-falls c m (omega arith) x, rank-before c h)
@@ -123,45 +127,43 @@ module _ (levels : Levels) (s : List ℕ) where
 
   -- ---- where the walk goes on after nodes are dropped, m being left
 
-  module _ (w : Remembered) (k : ℕ) (r : Rests levels s w k) (m : ℕ) (h : m < w .count) where
+  module _ (w : Remembered) (p k : ℕ) (r : Rests levels s w p k) (m : ℕ) (h : m < w .count) where
     abbrev node : ℕ
     node = getD (w .nodes) m 0
 
-    abbrev onward : Stretch
-    onward = record { start = getD (w .ranks) m 0 + 1; pins = positionIn (w .ranks) m n - (getD (w .ranks) m 0 + 1) }
-
-    -- where it starts and ends
-    onward-in : (getD (w .ranks) m 0 + 1 ≤ positionIn (w .ranks) m n) × (positionIn (w .ranks) m n ≤ n)
-    onward-in = (omega (arith, rank-before w (r .keeps) m h), position-le w (r .keeps) m (omega arith))
-
-    stands-onward : Stands levels s (childOf true node) (height (childOf true node) - 1) onward (getD (w .times) m 0)
-    stands-onward =
+    -- the stretch after the node, which ends where the node's own does
+    onward-in : (stretch n (childOf true node) .start ≡ rank n node + 1)
+        × (stretch n (childOf true node) .start + stretch n (childOf true node) .pins ≡ positionOf w (r .keeps) m)
+    onward-in =
         let e = r .keeps .entry m h in
         let i = rank-in n node (e .one) (e .among) in
-        let st : stretch n node .start + rootPlace (stretch n node .pins) ≡ getD (w .ranks) m 0 + 1 = omega (arith, e .ranked) in
-        let pi : stretch n node .pins - rootPlace (stretch n node .pins) ≡ positionIn (w .ranks) m n - (getD (w .ranks) m 0 + 1) = omega (arith, e .ends, e .ranked) in
-        stands-at levels s (childOf true node) onward (getD (w .times) m 0) (omega (arith, child-bounds true node, e .one))
-        (stretch-child n true node (e .one) ∙ rw (st, pi))
-        (omega (arith, onward-in))
+        let q = place-in (stretch n node .pins) (pins-of-node n node (e .one) (e .among)) in
+        rw (stretch-child n true node (e .one)) (omega arith, omega (arith, e .ends))
+
+    stands-onward : Stands levels s (childOf true node) (height (childOf true node) - 1) (stretch n (childOf true node)) (getD (w .times) m 0)
+    stands-onward =
+        let e = r .keeps .entry m h in
+        stands-at levels s (childOf true node) (stretch n (childOf true node)) (getD (w .times) m 0) (omega (arith, child-bounds true node, e .one)) refl
+        (omega (arith, onward-in, position-le w (r .keeps) m (omega arith)))
         (rw (parent-of true node) (e .time))
 
-    resumes-onward : Resumes levels s (remembered m (w .nodes) (w .times) (w .ranks)) (childOf true node) onward k
+    resumes-onward : Resumes levels s (remembered m (w .nodes) (w .times)) (childOf true node) k
     resumes-onward =
         let e = r .keeps .entry m h in
         record {
           keeps = record {
             nodes-size = r .keeps .nodes-size;
             times-size = r .keeps .times-size;
-            ranks-size = r .keeps .ranks-size;
             entry = λ i l. r .keeps .entry i (omega arith);
           };
-          ends = omega (arith, onward-in);
+          child = rw (parent-of true node) (e .among);
+          ends = onward-in .1;
           deep = rw (height-child true node (e .one)) (omega (arith, e .deep));
-          few = omega (arith, r .few, position-falls w (r .keeps) (w .count) m (le-refl (w .count)) h);
+          few = omega (arith, onward-in, r .few, r .is, position-falls w (r .keeps) (w .count) m (le-refl (w .count)) h);
         }
 
     pub goes-onward : (first : Bool) (t : ℕ) → m ≡ leftBy (w .times) t (w .count)
-        → GoesOn levels s w first t k m (record { v = childOf true node; here = onward; above = getD (w .times) m 0 })
+        → GoesOn levels s w first t k m (record { v = childOf true node; above = getD (w .times) m 0 })
     goes-onward first t e = record {
       drops = dropped-some w (r .keeps) t (startAt n first) m e h;
       stands = stands-onward;
@@ -170,12 +172,12 @@ module _ (levels : Levels) (s : List ℕ) where
 
   -- ---- where the first target goes on
 
-  pub goes-root : (w : Remembered) (k t : ℕ) → Between levels s w true k → GoesOn levels s w true t k (w .count) (rootOf n)
-  goes-root w k t b =
+  pub goes-root : (w : Remembered) (p k t : ℕ) → Between levels s w p true k → GoesOn levels s w true t k (w .count) rootOf
+  goes-root w p k t b =
       let z = b .1 refl in
       record {
         drops = dropped-none w (b .0 .keeps) t 1 (left-none (w .times) t (w .count) (z .0));
-        stands = rw root-depth (stands-root levels s);
+        stands = rw (root-depth, stretch-root n) (stands-root levels s);
         resumes = rw (z .1) (resumes-root levels s w (b .0 .keeps) (z .0));
       }
 
@@ -194,25 +196,18 @@ pub record Onward (levels : Levels) (w : Remembered) (m : ℕ) : Type 0 where
   pub under-16 : m < 16
   pub in-nodes : m < length (w .nodes)
   pub in-times : m < length (w .times)
-  pub in-ranks : m < length (w .ranks)
   pub node-in : getD (w .nodes) m 0 < 65536
-  pub start-in : getD (w .ranks) m 0 + 1 ≤ positionIn (w .ranks) m (levels .pins)
-  pub end-in : positionIn (w .ranks) m (levels .pins) < 65536
 
-pub onward-bounds : {levels : Levels} {s : List ℕ} {w : Remembered} {k m : ℕ} → Rests levels s w k → Fits levels s → (t : ℕ) → m ≡ leftBy (w .times) t (w .count)
+pub onward-bounds : {levels : Levels} {s : List ℕ} {w : Remembered} {p k m : ℕ} → Rests levels s w p k → Fits levels s → (t : ℕ) → m ≡ leftBy (w .times) t (w .count)
     → (m ≡ w .count → ⊥) → Onward levels w m
-onward-bounds {levels} {s} {w} {k} {m} r f t e d =
+onward-bounds {levels} {s} {w} {p} {k} {m} r f t e d =
     let h : m < w .count = omega (arith, left-le (w .times) t (w .count)) in
     let few = pins-bound levels s f in
-    let i = onward-in levels s w k r m h in
     let u : m < 16 = omega (arith, keeps-few levels s w f (r .keeps)) in
     record {
       less = h;
       under-16 = u;
       in-nodes = rw (r .keeps .nodes-size) u;
       in-times = rw (r .keeps .times-size) u;
-      in-ranks = rw (r .keeps .ranks-size) u;
       node-in = omega (arith, r .keeps .entry m h .among);
-      start-in = i .0;
-      end-in = omega arith;
     }

@@ -3,11 +3,12 @@
 use mathlib.Core.Path.{_≡_, refl, sym, ap, _∙_}
 use Prim.Native.Nat.{ℕ, zero, suc, _+_, _-_, _*_, _/_, _%_, _^_, _≤_, _<_, min}
 use native.Mathlib.Nat.{pow-succ', div-div-eq-div-mul, mul-le-mul-right, lt-of-not-le}
+use native.Mathlib.Decide.{ℕ-discrete}
 use native.Mathlib.Omega.{arith}
 use lib.Count.{trailingZeros, under}
 use lib.Pow.{pow-pos, pow-mono, pow-add, shr-lt, high}
-use Rattle.tree.specs.Shape.{rootPlace, stretch, rank}
-use Rattle.tree.proofs.Heights.{place-law, place-small}
+use Rattle.tree.specs.Shape.{height, rootPlace, stretch, rank}
+use Rattle.tree.proofs.Heights.{height-zero, Digits, digits, place-law, place-small}
 use Rattle.tree.proofs.Stretches.{stretch-root, stretch-left, stretch-right, Child, left, right, child, pins-at, rank-in}
 
 -- the root's place under a node with k + 1 levels below it
@@ -56,6 +57,42 @@ rank-above n j d k v ej lo hi a b h =
     let l = rw (pow-succ' 2 k) at (under-last j d (suc k) v ej a) in
     let q = rw (place-at n j d k v ej lo hi a b) at (rank-in n v (omega (arith, pow-pos d)) h .0) in
     omega (arith, i, l, q)
+
+-- ---- missing children
+
+-- where the stretch of one on the last level starts
+pub missing-last : (n v : ℕ) → n < v → v < 2 ^ height n → stretch n v .start + 2 ^ height n ≡ v + n + 1
+missing-last n v m b = go (ℕ-discrete n 0)
+  where
+    go : Dec (n ≡ 0) → stretch n v .start + 2 ^ height n ≡ v + n + 1
+    go (yes e) = absurd (omega (arith, rw (e, height-zero) at b))
+    go (no e) =
+        let d = digits n (omega arith) in
+        let b′ = rw (d .is) at b in
+        rw (d .is, pow-succ' 2 (d .top)) (omega (arith, start-at n (d .top) (d .top) 0 v (omega arith) (d .least) (d .below) (omega (arith, d .least)) b′, d .least, d .below))
+
+-- and of one below it
+pub missing-below : (n v : ℕ) → n < v → v / 2 ≤ n → 2 ^ height n ≤ v → stretch n v .start + 2 ^ height n ≡ v
+missing-below n v m l a = go (ℕ-discrete n 0)
+  where
+    go : Dec (n ≡ 0) → stretch n v .start + 2 ^ height n ≡ v
+    go (yes e) =
+        let one : v ≡ 1 = omega arith in
+        rw (one, stretch-root n, e, height-zero)
+    go (no e) = under-parent (child v (omega arith))
+      where
+        d : Digits n
+        d = digits n (omega arith)
+
+        under-parent : Child v → stretch n v .start + 2 ^ height n ≡ v
+        under-parent (left u h e) =
+            let lo : 2 ^ d .top ≤ u = omega (arith, rw (d .is) at a) in
+            rw (e, stretch-left n u h, d .is, pow-succ' 2 (d .top)) (omega (arith, start-at n (d .top) (d .top) 0 u (omega arith) (d .least) (d .below) lo (omega (arith, d .below))))
+        under-parent (right u h e) =
+            let lo : 2 ^ d .top ≤ u = omega (arith, rw (d .is) at a) in
+            let p = pins-at n (d .top) (d .top) 0 u (omega arith) (d .least) (d .below) lo (omega (arith, d .below)) in
+            let one : stretch n u .pins ≡ 1 = omega arith in
+            rw (e, stretch-right n u h, one, place-small 1 (omega arith), d .is, pow-succ' 2 (d .top)) (omega (arith, start-at n (d .top) (d .top) 0 u (omega arith) (d .least) (d .below) lo (omega (arith, d .below))))
 
 -- ---- the node of a rank
 

@@ -10,23 +10,19 @@ use native.Mathlib.Omega.{arith}
 use lib.Dec.{ltb}
 use lib.ListN.{length, getD, set, length-set}
 use lib.Seq.{getD-set-same, getD-set-other}
-use Rattle.tree.specs.declared.shape.Stretch.{Stretch}
 use Rattle.tree.specs.declared.nodes.Levels.{Levels}
 use Rattle.tree.specs.declared.targets.Ending.{Ending}
 use Rattle.tree.specs.declared.targets.Ending.the-variants.{Nodes}
-use Rattle.tree.specs.Shape.{childOf, sideOf, rank}
+use Rattle.tree.specs.Shape.{childOf, stretch}
 use Rattle.tree.specs.Levels.{Fits}
 use Rattle.tree.specs.Times.{at, timesIn}
 use Rattle.tree.specs.Walks.{position}
 use Rattle.tree.specs.Standing.{Stands}
-use Rattle.tree.specs.Remembering.{Remembered, remembered, entries, keptIn, positionIn, positionBy, Entry, Keeps, Resumes, Rests, Remembers}
+use Rattle.tree.specs.Remembering.{Remembered, remembered, entries, keptIn, Entry, Keeps, Resumes, Rests, Remembers}
 use Rattle.tree.proofs.Heights.{height-mono, height-above}
-use Rattle.tree.proofs.Walks.{height-child}
+use Rattle.tree.proofs.Stretches.{stretch-root, stretch-child}
+use Rattle.tree.proofs.Walks.{parent-of, height-child}
 use Rattle.tree.proofs.Steps.{stands-place, stands-rank}
-
-pub position-last : (ranks : List ℕ) (c n : ℕ) → 1 ≤ c → getD ranks (c - 1) 0 ≡ positionIn ranks c n
-position-last ranks zero n h = absurd (omega arith)
-position-last ranks (suc c) n h = let e : suc c - 1 ≡ c = omega arith in rw e
 
 -- ---- a node more
 
@@ -38,10 +34,6 @@ unfolding entries
 entries-set xs c zero v h = refl
 entries-set xs c (suc i) v h = rw (getD-before xs i c v h, entries-set xs c i v (omega arith))
 
-position-set : (ranks : List ℕ) (c i r n : ℕ) → i ≤ c → positionIn (set ranks c r) i n ≡ positionIn ranks i n
-position-set ranks c zero r n h = refl
-position-set ranks c (suc i) r n h = getD-before ranks i c r h
-
 module _ (levels : Levels) (s : List ℕ) where
   abbrev n : ℕ
   n = levels .pins
@@ -49,24 +41,13 @@ module _ (levels : Levels) (s : List ℕ) where
   module _ (w : Remembered) (v x : ℕ) where
     -- node v with time x remembered too
     abbrev pub withNode : Remembered
-    withNode = record {
-      count = suc (w .count);
-      nodes = set (w .nodes) (w .count) v;
-      times = set (w .times) (w .count) x;
-      ranks = set (w .ranks) (w .count) (rank n v);
-    }
+    withNode = record { count = suc (w .count); nodes = set (w .nodes) (w .count) v; times = set (w .times) (w .count) x }
 
     -- as the code adds it
-    pub added : (r : ℕ) → r ≡ rank n v
-        → record {
-          count = w .count + 1;
-          nodes = set (w .nodes) (w .count) v;
-          times = set (w .times) (w .count) x;
-          ranks = set (w .ranks) (w .count) r;
-        } ≡ withNode
-    added r e = rw (e, add-one (w .count))
+    pub added : record { count = w .count + 1; nodes = set (w .nodes) (w .count) v; times = set (w .times) (w .count) x } ≡ withNode
+    added = rw (add-one (w .count))
 
-    entry-before : (i : ℕ) → i < w .count → Entry levels s (w .nodes) (w .times) (w .ranks) i → Entry levels s (withNode .nodes) (withNode .times) (withNode .ranks) i
+    entry-before : (i : ℕ) → i < w .count → Entry levels s (w .nodes) (w .times) i → Entry levels s (withNode .nodes) (withNode .times) i
     entry-before i h e =
         let c = w .count in
         let same = getD-before (w .nodes) i c v h in
@@ -74,8 +55,7 @@ module _ (levels : Levels) (s : List ℕ) where
           one = rw same (e .one);
           among = rw same (e .among);
           time = rw (same, getD-before (w .times) i c x h) (e .time);
-          ranked = rw (same, getD-before (w .ranks) i c (rank n v) h) (e .ranked);
-          ends = rw (same, position-set (w .ranks) c i (rank n v) n (omega arith)) (e .ends);
+          ends = rw (same, entries-set (w .nodes) c i v (omega arith)) (e .ends);
           deep = rw same (e .deep);
         }
 
@@ -88,95 +68,84 @@ module _ (levels : Levels) (s : List ℕ) where
         omega (arith, d .deep, height-mono (getD (w .nodes) (w .count - 1) 0) n (d .among), f .height-fits)
   ]
 
-  pub keeps-position : (w : Remembered) → Keeps levels s w → position n (keptIn w) ≡ positionBy w n
-  unfolding entries
-  keeps-position w k = go (w .count) (λ i h. k .entry i h .ranked)
-    where
-      go : (c : ℕ) → ((i : ℕ) → i < c → rank n (getD (w .nodes) i 0) ≡ getD (w .ranks) i 0) → position n (entries (w .nodes) c) ≡ positionIn (w .ranks) c n
-      go zero h = refl
-      go (suc c) h = h c (le-refl (suc c))
-
   -- nothing is remembered in arrays of 16
-  pub keeps-none : {nodes times ranks : List ℕ} → length nodes ≡ 16 → length times ≡ 16 → length ranks ≡ 16 → Keeps levels s (remembered 0 nodes times ranks)
-  keeps-none a b c = record {
+  pub keeps-none : {nodes times : List ℕ} → length nodes ≡ 16 → length times ≡ 16 → Keeps levels s (remembered 0 nodes times)
+  keeps-none a b = record {
     nodes-size = a;
     times-size = b;
-    ranks-size = c;
     entry = λ i h. absurd (omega arith);
   }
 
   -- what a target that is not refused leaves
-  pub remembers-opened : (w : Remembered) (end : Ending) (k : ℕ) (vs : List ℕ) → end ≡ Nodes k → Remembers levels s w end vs → (keptIn w ≡ vs) × Rests levels s w k
-  remembers-opened w end k vs e h = subst (λ (e : Ending). Remembers levels s w e vs) e h
+  pub remembers-opened : (w : Remembered) (p : ℕ) (end : Ending) (k : ℕ) (vs : List ℕ) → end ≡ Nodes k → Remembers levels s w p end vs → (keptIn w ≡ vs) × Rests levels s w p k
+  remembers-opened w p end k vs e h = subst (λ (e : Ending). Remembers levels s w p e vs) e h
 
-  pub resumes-root : (w : Remembered) → Keeps levels s w → w .count ≡ 0 → Resumes levels s w 1 (record { start = 0; pins = n }) 0
+  pub resumes-root : (w : Remembered) → Keeps levels s w → w .count ≡ 0 → Resumes levels s w 1 0
+  unfolding entries
   resumes-root w k z = record {
     keeps = k;
-    ends = zero-add n ∙ ap (λ (c : ℕ). positionIn (w .ranks) c n) (sym z);
+    child = omega arith;
+    ends = rw (stretch-root n) (zero-add n ∙ ap (λ (c : ℕ). position n (entries (w .nodes) c)) (sym z));
     deep = rw z (height-above 1 0 (le-refl 1));
     few = omega arith;
   }
 
 -- ---- one step down
 
-module _ {levels : Levels} {s : List ℕ} {w : Remembered} {v depth : ℕ} {here : Stretch} {above k : ℕ} (st : Stands levels s v depth here above)
-    (r : Resumes levels s w v here k) (l : v ≤ levels .pins) (f : Fits levels s) where
+module _ {levels : Levels} {s : List ℕ} {w : Remembered} {v depth above k : ℕ} (st : Stands levels s v depth (stretch (levels .pins) v) above)
+    (r : Resumes levels s w v k) (l : v ≤ levels .pins) (f : Fits levels s) where
   pub count-under-16 : w .count < 16
   count-under-16 = omega (arith, r .deep, height-mono v (levels .pins) l, f .height-fits)
 
   node-added : getD (set (w .nodes) (w .count) v) (w .count) 0 ≡ v
   node-added = getD-set-same (w .nodes) (w .count) v 0 (rw (r .keeps .nodes-size) count-under-16)
 
-  rank-added : getD (set (w .ranks) (w .count) (rank (levels .pins) v)) (w .count) 0 ≡ rank (levels .pins) v
-  rank-added = getD-set-same (w .ranks) (w .count) (rank (levels .pins) v) 0 (rw (r .keeps .ranks-size) count-under-16)
-
-  resumes-right : Resumes levels s w (childOf true v) (sideOf true here) (k + 1)
+  resumes-right : Resumes levels s w (childOf true v) (k + 1)
   resumes-right =
       let p = stands-place st l in
       record {
         keeps = r .keeps;
-        ends = omega (arith, r .ends);
+        child = rw (parent-of true v) l;
+        ends = rw (stretch-child (levels .pins) true v (st .one)) (omega (arith, r .ends));
         deep = rw (height-child true v (st .one)) (omega (arith, r .deep));
-        few = omega (arith, r .few);
+        few = rw (stretch-child (levels .pins) true v (st .one)) (omega (arith, r .few));
       }
 
-  resumes-left : (x : ℕ) → timesIn levels s v ≡ at x → Resumes levels s (withNode levels s w v x) (childOf false v) (sideOf false here) (k + 1)
+  resumes-left : (x : ℕ) → timesIn levels s v ≡ at x → Resumes levels s (withNode levels s w v x) (childOf false v) (k + 1)
+  unfolding entries
   resumes-left x e =
       let p = stands-place st l in
       let c = w .count in
-      let rank-here = stands-rank st in
-      let last : Entry levels s (withNode levels s w v x .nodes) (withNode levels s w v x .times) (withNode levels s w v x .ranks) c = record {
+      let last : Entry levels s (withNode levels s w v x .nodes) (withNode levels s w v x .times) c = record {
         one = rw node-added (st .one);
         among = rw node-added l;
         time = rw (node-added, getD-set-same (w .times) c x 0 (rw (r .keeps .times-size) count-under-16)) e;
-        ranked = rw (node-added, rank-added);
-        ends = rw (node-added, position-set (w .ranks) c c (rank (levels .pins) v) (levels .pins) (le-refl c), st .under) (r .ends);
+        ends = rw (node-added, entries-set (w .nodes) c c v (le-refl c)) (r .ends);
         deep = rw node-added (r .deep);
       } in
       record {
         keeps = record {
           nodes-size = length-set (w .nodes) c v ∙ r .keeps .nodes-size;
           times-size = length-set (w .times) c x ∙ r .keeps .times-size;
-          ranks-size = length-set (w .ranks) c (rank (levels .pins) v) ∙ r .keeps .ranks-size;
           entry = λ i h. elim (decLt i c) [
             | yes y ↦ entry-before levels s w v x i y (r .keeps .entry i y)
-            | no y ↦ let q : c ≡ i = omega arith in subst (Entry levels s (withNode levels s w v x .nodes) (withNode levels s w v x .times) (withNode levels s w v x .ranks)) q last
+            | no y ↦ let q : c ≡ i = omega arith in subst (Entry levels s (withNode levels s w v x .nodes) (withNode levels s w v x .times)) q last
           ];
         };
-        ends = rw rank-added (omega (arith, rank-here));
+        child = rw (parent-of false v) l;
+        ends = rw (node-added, stretch-child (levels .pins) false v (st .one)) (omega (arith, stands-rank st));
         deep = rw (height-child false v (st .one)) (omega (arith, r .deep));
-        few = omega (arith, r .few);
+        few = rw (stretch-child (levels .pins) false v (st .one)) (omega (arith, r .few));
       }
 
   -- what is remembered after a step past a node with time x, for target t
   abbrev after : ℕ → ℕ → Remembered
   after x t = cond (ltb x t) w (withNode levels s w v x)
 
-  pub resumes-child : (x t : ℕ) → timesIn levels s v ≡ at x
-      → Resumes levels s (after x t) (childOf (ltb x t) v) (sideOf (ltb x t) here) (k + 1)
+  pub resumes-child : (x t : ℕ) → timesIn levels s v ≡ at x → Resumes levels s (after x t) (childOf (ltb x t) v) (k + 1)
   resumes-child x t e = go (ltb x t)
     where
-      go : (b : Bool) → Resumes levels s (cond b w (withNode levels s w v x)) (childOf b v) (sideOf b here) (k + 1)
+      go : (b : Bool) → Resumes levels s (cond b w (withNode levels s w v x)) (childOf b v) (k + 1)
       go true = resumes-right
       go false = resumes-left x e
 

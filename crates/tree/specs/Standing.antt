@@ -24,9 +24,9 @@ pub record Stands (levels : Levels) (s : List ℕ) (v depth : ℕ) (here : Stret
   pub inside : here .start + here .pins ≤ levels .pins
   pub parent : timesIn levels s (v / 2) ≡ at above
 
--- the root of n pins, with no node above it
-abbrev pub rootOf : ℕ → Point
-rootOf n = record { v = 1; here = record { start = 0; pins = n }; above = 0 }
+-- the root, with no node above it
+abbrev pub rootOf : Point
+rootOf = record { v = 1; above = 0 }
 
 -- what an access at i answers that goes on from node v, with k nodes opened
 abbrev pub accessFrom : ℕ → (ℕ → Time) → ℕ → ℕ → ℕ → Answer

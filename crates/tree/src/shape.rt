@@ -1,7 +1,7 @@
 // The shape of the tree of n pins.
 ghost use mathlib.Core.Path.{_≡_};
 ghost use Prim.Native.Nat.{ℕ, _+_, _/_, _^_, _≤_, _<_};
-ghost use Rattle.tree.specs.Shape.{height, rootPlace, sideOf, childOf, rank, ranked};
+ghost use Rattle.tree.specs.Shape.{height, rootPlace, sideOf, childOf, stretch, rank, ranked};
 ghost use Rattle.tree.specs.Standing.{StretchIs};
 
 // The stretch of the list under a node: where it starts and how many pins it has.
@@ -81,6 +81,20 @@ pub(crate) fn node_of(n: usize, i: usize) -> usize
         2 * i + 2 - leaves
     };
     (2 * first + place) >> (usize::trailing_zeros(place) + 1)
+}
+
+// Where the stretch of v starts, which has no pins: v is the missing child that a walk comes to. Below the last level each number has a
+// position of its own; on the last level each that is missing leaves out one.
+pub(crate) fn missing_at(n: usize, v: usize) -> usize
+    requires { ⌜ (n < v) × (v / 2 ≤ n) × (n < 2 ^ 62) ⌝ }
+    ensures { λ r. ⌜ r ≡ stretch n v .start ⌝ }
+{
+    let below = power_of_two(height(n));
+    if v < below {
+        v + n + 1 - below
+    } else {
+        v - below
+    }
 }
 
 // The rank of node v, where the node `depth` levels above it has the stretch of `pins` from `start` on.

@@ -1,16 +1,13 @@
 // The sweep: targets one after the other, each from where the one before leaves off.
 use super::nodes::Levels;
 use super::nodes::Refusal;
-use super::shape::Stretch;
 use super::shape::child_of;
 use super::shape::height;
 use super::targets::Ending;
 use super::targets::Point;
 use super::targets::Walked;
-use super::targets::at_root;
 use super::targets::go_down;
 use super::targets::left_by;
-use super::targets::position_of;
 use super::timing::known_times;
 ghost use mathlib.Core.Path.{_≡_};
 ghost use Prim.Native.Nat.{_≤_};
@@ -21,7 +18,7 @@ ghost use Rattle.tree.specs.Times.{timesIn};
 ghost use Rattle.tree.specs.Known.{KnownTimes};
 ghost use Rattle.tree.specs.Buffers.{replaced};
 ghost use Rattle.tree.specs.Sweeps.{sweep, swept};
-ghost use Rattle.tree.specs.Remembering.{remembered, positionIn, answerBy, Between, targetIn, keptAfter, Remembers};
+ghost use Rattle.tree.specs.Remembering.{remembered, answerBy, Between, targetIn, keptAfter, Remembers};
 
 // The nodes opened in all, or why a target stops.
 pub enum Swept {
@@ -39,8 +36,8 @@ fn next_target<'a>(
     n: usize,
     nodes: &mut [usize],
     times: &mut [u32],
-    ranks: &mut [usize],
     count: usize,
+    position: usize,
     first: bool,
     target: u32,
     opened: usize,
@@ -48,29 +45,24 @@ fn next_target<'a>(
     requires { ⌜ Fits (levelsOf n (now codes) (now ends)) (now s) ⌝ }
     requires { ⌜ (length (now codes) ≡ 16) × (length (now ends) ≡ 17) ⌝ }
     requires { ⌜ KnownTimes (levelsOf n (now codes) (now ends)) (now s) (now known) ⌝ }
-    requires { ⌜ Between (levelsOf n (now codes) (now ends)) (now s) (remembered count (now nodes) (now times) (now ranks)) first opened ⌝ }
-    ensures { λ r. ⌜ answerBy (positionIn (now (ranks .exit)) (r .count) n) (r .ending) ≡ targetIn (levelsOf n (now (codes .entry)) (now (ends .entry))) (now (s .entry)) (remembered count (now (nodes .entry)) (now (times .entry)) (now (ranks .entry))) first target opened ⌝ }
-    ensures { λ r. ⌜ Remembers (levelsOf n (now (codes .entry)) (now (ends .entry))) (now (s .entry)) (remembered (r .count) (now (nodes .exit)) (now (times .exit)) (now (ranks .exit))) (r .ending) (keptAfter (levelsOf n (now (codes .entry)) (now (ends .entry))) (now (s .entry)) (remembered count (now (nodes .entry)) (now (times .entry)) (now (ranks .entry))) first target) ⌝ }
+    requires { ⌜ Between (levelsOf n (now codes) (now ends)) (now s) (remembered count (now nodes) (now times)) position first opened ⌝ }
+    ensures { λ r. ⌜ answerBy (r .position) (r .ending) ≡ targetIn (levelsOf n (now (codes .entry)) (now (ends .entry))) (now (s .entry)) (remembered count (now (nodes .entry)) (now (times .entry))) first target opened ⌝ }
+    ensures { λ r. ⌜ Remembers (levelsOf n (now (codes .entry)) (now (ends .entry))) (now (s .entry)) (remembered (r .count) (now (nodes .exit)) (now (times .exit))) (r .position) (r .ending) (keptAfter (levelsOf n (now (codes .entry)) (now (ends .entry))) (now (s .entry)) (remembered count (now (nodes .entry)) (now (times .entry))) first target) ⌝ }
 {
-    let mut from = at_root(n);
+    let mut from = Point { v: 1, above: 0 };
     let mut left = count;
     if !first {
         left = left_by(times, count, target);
         if left == count {
             return Walked {
                 count: count,
+                position: position,
                 ending: Ending::Nodes(opened),
             };
         }
         let v = child_of(nodes[left], true);
-        let start = ranks[left] + 1;
-        let here = Stretch {
-            start: start,
-            pins: position_of(ranks, left, n) - start,
-        };
         from = Point {
             v: v,
-            here: here,
             above: times[left],
         };
     }
@@ -82,7 +74,6 @@ fn next_target<'a>(
         n,
         nodes,
         times,
-        ranks,
         left,
         target,
         from,
@@ -109,8 +100,8 @@ fn sweep_by<'a>(
 {
     let mut nodes = [0usize; 16];
     let mut times = [0u32; 16];
-    let mut ranks = [0usize; 16];
     let mut count: usize = 0;
+    let mut position = n;
     let mut opened: usize = 0;
     let mut i: usize = 0;
     while i < targets.len() {
@@ -122,8 +113,8 @@ fn sweep_by<'a>(
             n,
             &mut nodes,
             &mut times,
-            &mut ranks,
             count,
+            position,
             i == 0,
             targets[i],
             opened,
@@ -138,7 +129,8 @@ fn sweep_by<'a>(
             }
         }
         count = walked.count;
-        answers[i] = position_of(&ranks, count, n) as u32;
+        position = walked.position;
+        answers[i] = position as u32;
         i += 1;
     }
     Swept::Nodes(opened)

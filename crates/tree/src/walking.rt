@@ -5,12 +5,10 @@ use super::nodes::Opened;
 use super::nodes::Refusal;
 use super::nodes::open_at;
 use super::nodes::short_time;
-use super::shape::Stretch;
 use super::shape::child_of;
 use super::shape::height;
+use super::shape::missing_at;
 use super::shape::node_of;
-use super::shape::root_place;
-use super::shape::side_of;
 ghost use mathlib.Core.Path.{_≡_};
 ghost use Prim.Native.Nat.{_<_};
 ghost use Rattle.tree.specs.Levels.{Fits};
@@ -64,8 +62,8 @@ pub fn access(s: &[u8], levels: Levels, i: usize) -> Accessed
     Accessed::Time(time, nodes)
 }
 
-// The rank of the last node left by its left side, or n: left where a node's time is at or above the target, else right. That is where
-// the stretch ends, and at the end of the walk, where it has no pins, also where it starts. Either side is as likely, so none is a branch.
+// The rank of the last node left by its left side, or n: left where a node's time is at or above the target, else right. The stretch under
+// the walk ends there, and at the end of the walk, where it has no pins, also starts there. Either side is as likely, so none is a branch.
 pub fn search(s: &[u8], levels: Levels, target: u32) -> Searched
     requires { ⌜ Fits levels (now s) ⌝ }
     ensures { λ r. ⌜ searched r ≡ searchAnswer (levels .pins) (timesIn levels (now (s .entry))) target ⌝ }
@@ -73,7 +71,6 @@ pub fn search(s: &[u8], levels: Levels, target: u32) -> Searched
     let n = levels.pins;
     let mut v: usize = 1;
     let mut depth: usize = 0;
-    let mut here = Stretch { start: 0, pins: n };
     let mut time: u32 = 0;
     let mut nodes: usize = 0;
     while v <= n {
@@ -92,9 +89,8 @@ pub fn search(s: &[u8], levels: Levels, target: u32) -> Searched
                 }
             }
         }
-        here = side_of(here, root_place(here.pins), time < target);
         v = child_of(v, time < target);
         depth += 1;
     }
-    Searched::Position(here.start, nodes)
+    Searched::Position(missing_at(n, v), nodes)
 }

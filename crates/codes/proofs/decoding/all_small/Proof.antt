@@ -33,12 +33,12 @@ more k values joined i less h fits e was =
     let p : 2 ^ k ≤ 2 ^ 31 = pow-mono {i = k} {j = 31} h in
     record {
       all = λ l q m.
-      let x = both-below k (bitOr joined v) less l in
-      let y = both-below k joined v (x .0) in
-      next q m (y .1) (x .1) (was .all (y .0)) (eqb q i) refl;
+          let x = both-below k (bitOr joined v) less l in
+          let y = both-below k joined v (x .0) in
+          next q m (y .1) (x .1) (was .all (y .0)) (eqb q i) refl;
       some = λ f.
-      let y = f i (omega arith) in
-      or-lt k (bitOr joined v) less (or-lt k joined v (was .some (λ q m. f q (omega arith))) (y .1)) (omega arith);
+          let y = f i (omega arith) in
+          or-lt k (bitOr joined v) less (or-lt k joined v (was .some (λ q m. f q (omega arith))) (y .1)) (omega arith);
     }
   where
     next : (q : ℕ) → q < i + 1 → getD values i 0 < 2 ^ k → less < 2 ^ k → ((q : ℕ) → q < i → FromOne (2 ^ k) (getD values q 0))
@@ -52,6 +52,7 @@ told k n values joined h was = go (eqb (joined / 2 ^ k) 0) refl (fromOne (2 ^ k)
   where
     len : length (take n values) ≡ n
     len = length-take-le n values h
+
     go : (t : Bool) → eqb (joined / 2 ^ k) 0 ≡ t → (u : Bool) → fromOne (2 ^ k) (take n values) ≡ u → t ≡ u
     go true e u f =
         let z = eqb-true (joined / 2 ^ k) 0 e in

@@ -12,7 +12,7 @@ use Rattle.tree.specs.Times.{timesIn}
 use Rattle.tree.specs.Walks.{found}
 use Rattle.tree.specs.Remembering.{Remembered, remembered, keptIn, droppedIn}
 use Rattle.tree.proofs.Steps.{kept-end, target-end}
-use Rattle.tree.proofs.Remembering.{keeps-few, keeps-position}
+use Rattle.tree.proofs.Remembering.{keeps-few}
 use Rattle.tree.proofs.Dropping.{dropped-none, Onward, onward-bounds, GoesOn, goes-root, goes-onward}
 use Rattle.tree.proofs.sweeping.next_target.Statement.{statement}
 use Rattle.tree.proofs.sweeping.next_target.Tie as tie
@@ -21,14 +21,11 @@ abbrev levels : tie.Start → Levels
 levels c = levelsOf (c .args .n) (c .args .codes .now) (c .args .ends .now)
 
 abbrev kept : tie.Start → Remembered
-kept c = remembered (c .args .count) (c .args .nodes .now) (c .args .times .now) (c .args .ranks .now)
-
-at-root-requires : tie.Need-at-root-requires
-at-root-requires c κs = search needs
+kept c = remembered (c .args .count) (c .args .nodes .now) (c .args .times .now)
 
 left-by-requires : tie.Need-left-by-requires
 left-by-requires c κs =
-    let e = c .before .before .before .before .before .before .before .before .before .before in
+    let e = c .before .before .before .before .before .before .before .before in
     let k = e .pre .1 .1 .1 .0 .keeps in
     rw (k .times-size) (keeps-few (levels e) (e .args .s .now) (kept e) (e .pre .0) k)
 
@@ -37,20 +34,20 @@ same-length c = search needs
 
 returns : tie.Need-returns
 returns c =
-    let e = c .before .before .before .before .before .before .before .before .before .before .before .before in
+    let e = c .before .before .before .before .before .before .before .before .before .before in
     let a = e .args in
     let w = kept e in
     let n = a .n in
     let read = timesIn (levels e) (a .s .now) in
-    let k = e .pre .1 .1 .1 .0 .keeps in
+    let rests = e .pre .1 .1 .1 .0 in
     let d : droppedIn (levels e) (a .s .now) w (a .first) (a .target) ≡ record { from = suc n; kept = keptIn w } =
-    rw (not-true (a .first) (c .before .before .before .if1 .taken)) (dropped-none (levels e) (a .s .now) w k (a .target) (suc n) (sym (c .before .left-by .ensures) ∙ c .if2 .taken)) in
-    rw d (ap (λ (p : ℕ). found p (a .opened)) (sym (keeps-position (levels e) (a .s .now) w k)) ∙ sym (target-end n read (a .target) (keptIn w) (a .opened) (suc n) (le-refl (suc n))), (sym (kept-end n read (a .target) (keptIn w) (suc n) (le-refl (suc n))), e .pre .1 .1 .1 .0))
+    rw (not-true (a .first) (c .before .before .before .if1 .taken)) (dropped-none (levels e) (a .s .now) w (rests .keeps) (a .target) (suc n) (sym (c .before .left-by .ensures) ∙ c .if2 .taken)) in
+    rw d (ap (λ (p : ℕ). found p (a .opened)) (rests .is) ∙ sym (target-end n read (a .target) (keptIn w) (a .opened) (suc n) (le-refl (suc n))), (sym (kept-end n read (a .target) (keptIn w) (suc n) (le-refl (suc n))), rests))
 
 -- the numbers that are taken from the arrays
-bounds : (c : tie.Else2) → Onward (levels (c .before .before .before .before .before .before .before .before .before .before .before .before)) (kept (c .before .before .before .before .before .before .before .before .before .before .before .before)) (c .before .left-by .result)
+bounds : (c : tie.Else2) → Onward (levels (c .before .before .before .before .before .before .before .before .before .before)) (kept (c .before .before .before .before .before .before .before .before .before .before)) (c .before .left-by .result)
 bounds c =
-    let e = c .before .before .before .before .before .before .before .before .before .before .before .before in
+    let e = c .before .before .before .before .before .before .before .before .before .before in
     onward-bounds (e .pre .1 .1 .1 .0) (e .pre .0) (e .args .target) (c .before .left-by .ensures) (c .if2 .left)
 
 mul-child-of : tie.Need-mul-child-of
@@ -62,31 +59,16 @@ slice-read-child-of c = omega (arith, bounds (c .before))
 child-of-requires : tie.Need-child-of-requires
 child-of-requires c κs = omega (arith, bounds (c .before))
 
-mul-start : tie.Need-mul-start
-mul-start c = omega (arith, bounds (c .before .before))
+mul-t21 : tie.Need-mul-t21
+mul-t21 c = omega (arith, bounds (c .before .before))
 
-slice-read-start : tie.Need-slice-read-start
-slice-read-start c = omega (arith, bounds (c .before .before .before))
-
-add-start : tie.Need-add-start
-add-start c = omega (arith, bounds (c .before .before .before))
-
-position-of-requires : tie.Need-position-of-requires
-position-of-requires c κs = omega (arith, bounds (c .before .before .before .before))
-
-sub-t25 : tie.Need-sub-t25
-sub-t25 c = omega (arith, bounds (c .before .before .before .before .before), c .position-of .ensures)
-
-mul-t23 : tie.Need-mul-t23
-mul-t23 c = omega (arith, bounds (c .before .before .before .before .before))
-
-slice-read-t30 : tie.Need-slice-read-t30
-slice-read-t30 c = omega (arith, bounds (c .before .before .before .before .before .before))
+slice-read-t25 : tie.Need-slice-read-t25
+slice-read-t25 c = omega (arith, bounds (c .before .before .before))
 
 -- where it goes on
-goes : (c : tie.Joined1) → let e = c .before .before .before .before .before .before .before .before .before in let a = e .args in GoesOn (levels e) (a .s .now) (kept e) (a .first) (a .target) (a .opened) (c .if1 .left) (c .if1 .from)
+goes : (c : tie.Joined1) → let e = c .before .before .before .before .before .before .before in let a = e .args in GoesOn (levels e) (a .s .now) (kept e) (a .first) (a .target) (a .opened) (c .if1 .left) (c .if1 .from)
 goes c =
-    let e = c .before .before .before .before .before .before .before .before .before in
+    let e = c .before .before .before .before .before .before .before in
     let a = e .args in
     let s = a .s .now in
     let p = e .pre .1 .1 .1 in
@@ -94,16 +76,16 @@ goes c =
     (λ w.
     let m = w .2 .result in
     let h = onward-bounds (p .0) (e .pre .0) (a .target) (w .2 .ensures) (w .3 .left) .less in
-    rw (w .10, w .11, w .5 .ensures, w .8 .ensures) (goes-onward (levels e) s (kept e) (a .opened) (p .0) m h (a .first) (a .target) (w .2 .ensures)))
+    rw (w .7, w .8, w .5 .ensures) (goes-onward (levels e) s (kept e) (a .position) (a .opened) (p .0) m h (a .first) (a .target) (w .2 .ensures)))
     (λ w.
     let first = not-false (a .first) (w .0 .left) in
-    rw (w .1, w .2, c .before .at-root .ensures, first) (goes-root (levels e) s (kept e) (a .opened) (a .target) (rw first at p)))
+    rw (w .1, w .2, first) (goes-root (levels e) s (kept e) (a .position) (a .opened) (a .target) (rw first at p)))
     (c .if1 .came)
 
 go-down-requires : tie.Need-go-down-requires
 go-down-requires c κs =
-    let p = c .before .before .before .before .before .before .before .before .before .before .before .before .pre in
-    let g = goes (c .before .before .before) in
+    let p = c .before .before .before .before .before .before .before .before .before .pre in
+    let g = goes (c .before .before) in
     (p .0, (p .1 .0, (p .1 .1 .0, (g .stands, g .resumes))))
 
 same-length-2 : tie.Need-same-length-2
@@ -112,32 +94,22 @@ same-length-2 c = search needs
 same-length-3 : tie.Need-same-length-3
 same-length-3 c = search needs
 
-same-length-4 : tie.Need-same-length-4
-same-length-4 c = search needs
-
 returns-2 : tie.Need-returns-2
-returns-2 c = rw (goes (c .before .before .before .before .before .before .before .before .before .before) .drops) (c .before .before .before .before .before .before .go-down .ensures)
+returns-2 c = rw (goes (c .before .before .before .before .before .before .before) .drops) (c .before .before .before .before .go-down .ensures)
 
 pub next-target-spec : {M : Type 1} → statement M
 next-target-spec =
     tie.close
     (tie.spec
-    at-root-requires
     left-by-requires
     same-length
     returns
     mul-child-of
     slice-read-child-of
     child-of-requires
-    mul-start
-    slice-read-start
-    add-start
-    position-of-requires
-    sub-t25
-    mul-t23
-    slice-read-t30
+    mul-t21
+    slice-read-t25
     go-down-requires
     same-length-2
     same-length-3
-    same-length-4
     returns-2)

@@ -4,33 +4,39 @@ use mathlib.Core.Bool.{cond}
 use mathlib.Core.Logic.{⊎-elim}
 use mathlib.Core.List.{List, [], _∷_}
 use mathlib.Core.Path.{_≡_, refl, sym, ap, _∙_}
-use Prim.Native.Nat.{ℕ, _+_, _≤_}
+use Prim.Native.Nat.{ℕ, suc, _+_, _-_, _/_, _≤_}
 use native.Mathlib.Nat.{zero-add}
 use borrow.Author.Needs.{needs}
 use lib.Dec.{ltb}
 use Rattle.tree.specs.declared.nodes.Opened.the-variants.{Time}
+use Rattle.tree.specs.Shape.{stretch}
 use Rattle.tree.specs.Times.{at, timesIn}
 use Rattle.tree.specs.Walks.{found, position, targetFrom, searchAnswer}
 use Rattle.tree.specs.Standing.{Stands}
-use Rattle.tree.proofs.Stretches.{side-in}
-use Rattle.tree.proofs.NodeFetches.{Level}
-use Rattle.tree.proofs.Steps.{stands-root, stands-pins, stands-end, stands-level, stands-opened, stands-child, side-ends, target-end, target-refused, target-step}
+use Rattle.tree.proofs.Stretches.{stretch-root, stretch-child}
+use Rattle.tree.proofs.Walks.{child-bounds, parent-of}
+use Rattle.tree.proofs.NodeFetches.{Level, pins-bound}
+use Rattle.tree.proofs.Steps.{stands-root, stands-end, stands-level, stands-opened, stands-child, side-ends, target-end, target-refused, target-step}
 use Rattle.tree.proofs.walking.search.Statement.{statement}
 use Rattle.tree.proofs.walking.search.Tie as tie
 
 -- the stretch ends at the position of the nodes that are left by their left side, the deepest first
 abbrev Inv-loop : tie.InvT-loop
-Inv-loop s target levels n v₀ depth₀ here₀ time₀ nodes₀ v depth here time nodes =
+Inv-loop s target levels n v₀ depth₀ time₀ nodes₀ v depth time nodes =
     let read = timesIn levels s in
+    let here = stretch (levels .pins) v in
     Stands levels s v depth here time × (nodes ≡ depth)
     × ((kept : List ℕ) × (position (levels .pins) kept ≡ here .start + here .pins)
     × (targetFrom (levels .pins) read target kept nodes v ≡ searchAnswer (levels .pins) read target))
+    × (v / 2 ≤ levels .pins)
 
 abbrev μ-loop : tie.MeasureT-loop
-μ-loop s target levels n v₀ depth₀ here₀ time₀ nodes₀ v depth here time nodes = here .pins
+μ-loop s target levels n v₀ depth₀ time₀ nodes₀ v depth time nodes = suc (levels .pins) - v
 
 loop-holds : tie.Need-loop-holds Inv-loop μ-loop
-loop-holds c = let a = c .before .args in (stands-root (a .t2) (a .s .now), refl, ([], sym (zero-add (a .t2 .pins)), refl))
+loop-holds c =
+    let a = c .before .args in
+    rw (stretch-root (a .t2 .pins)) (stands-root (a .t2) (a .s .now), refl, ([], sym (zero-add (a .t2 .pins)), refl), omega arith)
 
 -- the node's level lies in the bytes
 level : (c : tie.In-loop Inv-loop μ-loop) → let a = c .before .before .before .args in Level (a .t2) (a .s .now) (c .before .loop .depth)
@@ -74,36 +80,29 @@ returns c =
     let e = stands-opened (l .inv .0) (c .before .before .before .open-at .ensures) (c .before .opened2 .given .1) in
     sym (target-refused (a .t2 .pins) (timesIn (a .t2) (a .s .now)) (a .target) (l .inv .2 .0) (l .nodes) (l .v) _ _ (l .inv .0 .one) (omega arith) e) ∙ l .inv .2 .2
 
-root-place-requires : tie.Need-root-place-requires Inv-loop μ-loop
-root-place-requires c κs = tt
-
-side-of-requires : tie.Need-side-of-requires Inv-loop μ-loop
-side-of-requires c κs =
-    let w = c .before .before .before .before .before .before .before .before .before .loop .inv .0 in
-    (stands-pins w (omega arith), c .root-place .ensures, omega (arith, w .inside, level (c .before .before .before .before .before .before .before .before)))
-
 child-of-requires : tie.Need-child-of-requires Inv-loop μ-loop
-child-of-requires c κs = omega (arith, level (c .before .before .before .before .before .before .before .before .before))
+child-of-requires c κs = omega (arith, level (c .before .before .before .before .before .before .before))
 
 add-depth : tie.Need-add-depth Inv-loop μ-loop
-add-depth c = omega (arith, level (c .before .before .before .before .before .before .before .before .before .before))
+add-depth c = omega (arith, level (c .before .before .before .before .before .before .before .before))
 
 loop-less : tie.Need-loop-less Inv-loop μ-loop
 loop-less c =
-    let l = c .before .before .before .before .before .before .before .before .before .before .before .loop in
-    rw (c .before .side-of .ensures) (side-in (ltb (c .before .before .before .if1 .time) (c .before .before .before .before .before .before .before .before .before .before .before .before .before .args .target)) (l .here) (stands-pins (l .inv .0) (omega arith)) .0)
+    let l = c .before .before .before .before .before .before .before .before .before .loop in
+    let t = c .before .before .before .before .before .before .before .before .before .before .before .args .target in
+    rw (c .child-of .ensures) (omega (arith, child-bounds (ltb (c .before .if1 .time) t) (l .v), l .inv .0 .one))
 
 loop-again : tie.Need-loop-again Inv-loop μ-loop
 loop-again c =
-    let a = c .before .before .before .before .before .before .before .before .before .before .before .before .before .args in
-    let l = c .before .before .before .before .before .before .before .before .before .before .before .loop in
-    let x = c .before .before .before .if1 .time in
+    let a = c .before .before .before .before .before .before .before .before .before .before .before .args in
+    let l = c .before .before .before .before .before .before .before .before .before .loop in
+    let x = c .before .if1 .time in
     let t = a .target in
     let n = a .t2 .pins in
-    let e = time-is (c .before .before .before) in
+    let e = time-is (c .before) in
     let kept = l .inv .2 .0 in
     let k : l .v ≤ n = omega arith in
-    rw (c .child-of .ensures, c .before .side-of .ensures) (
+    rw (c .child-of .ensures, stretch-child n (ltb x t) (l .v) (l .inv .0 .one)) (
       stands-child (l .inv .0) (ltb x t) x k e,
       omega arith,
       (
@@ -111,14 +110,20 @@ loop-again c =
         side-ends (l .inv .0) k (ltb x t) kept (l .inv .2 .1),
         sym (target-step n (timesIn (a .t2) (a .s .now)) t kept (l .v) x (l .inv .0 .one) k e (l .nodes)) ∙ l .inv .2 .2,
       ),
+      rw (parent-of (ltb x t) (l .v)) k,
     )
+
+missing-at-requires : tie.Need-missing-at-requires Inv-loop μ-loop
+missing-at-requires c κs =
+    let a = c .before .before .before .args in
+    (omega arith, c .before .loop .inv .3, omega (arith, pins-bound (a .t2) (a .s .now) (c .before .before .before .pre)))
 
 returns-2 : tie.Need-returns-2 Inv-loop μ-loop
 returns-2 c =
-    let a = c .before .before .before .args in
-    let l = c .before .loop in
+    let a = c .before .before .before .before .args in
+    let l = c .before .before .loop in
     let n = a .t2 .pins in
-    ap (λ (p : ℕ). found p (l .nodes)) (sym (l .inv .2 .1 ∙ stands-end (l .inv .0) (omega arith)))
+    ap (λ (p : ℕ). found p (l .nodes)) (c .missing-at .ensures ∙ sym (l .inv .2 .1 ∙ stands-end (l .inv .0) (omega arith)))
     ∙ sym (target-end n (timesIn (a .t2) (a .s .now)) (a .target) (l .inv .2 .0) (l .nodes) (l .v) (omega arith)) ∙ l .inv .2 .2
 
 pub search-spec : {M : Type 1} → statement M
@@ -135,10 +140,9 @@ search-spec =
     enum-known-opened
     enum-known-opened-2
     returns
-    root-place-requires
-    side-of-requires
     child-of-requires
     add-depth
     loop-less
     loop-again
+    missing-at-requires
     returns-2)
