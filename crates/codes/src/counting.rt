@@ -28,7 +28,7 @@ fn ones_at(part: &[u8], at: usize, w: usize) -> usize
     ones_of(read(part, at, w))
 }
 
-// A number with the ones of the 4 bytes from byte `first` on. Their order is no matter for a count, and in this one they are one load.
+// A number with the ones of the 4 bytes from byte `first` on. Their order is no matter for a count, and in this one they are one read.
 fn ones_half(part: &[u8], first: usize) -> u64
     requires { ⌜ first + 4 ≤ length (now part) ⌝ }
     ensures { λ r. ⌜ (r < 2 ^ 32) × (ones r ≡ sum (take 32 (drop (first * 8) (bitsOf (now (part .entry)))))) ⌝ }
@@ -39,7 +39,7 @@ fn ones_half(part: &[u8], first: usize) -> u64
         + byte(part, first + 3) * 16777216
 }
 
-// A word with the ones of the 8 bytes from byte `first` on, which the compiler makes one load of, too.
+// A word with the ones of the 8 bytes from byte `first` on. The compiler makes one read of both halves, too, but not of a sum of 8 bytes.
 fn ones_word(part: &[u8], first: usize) -> u64
     requires { ⌜ first + 8 ≤ length (now part) ⌝ }
     ensures { λ r. ⌜ ones r ≡ sum (take 64 (drop (first * 8) (bitsOf (now (part .entry))))) ⌝ }
@@ -90,8 +90,8 @@ fn ones_in_fifteen(part: &[u8], first: usize, step: usize) -> usize
     ones_of(g.ones) + 2 * ones_of(r.ones) + 4 * ones_of(fours.ones) + 8 * ones_of(fours.twos)
 }
 
-// How many bits are 1 in fifteen times as many words from byte `first` on as `turns`. They are fifteen streams, side by side, since the
-// compiler makes wide reads of words that follow each other from turn to turn.
+// How many bits are 1 in fifteen words for each turn, from byte `first` on. They are fifteen streams, side by side, since the compiler makes
+// wide reads of words that follow each other from turn to turn.
 fn ones_in_streams(part: &[u8], first: usize, turns: usize) -> usize
     requires { ⌜ (first + turns * 120 ≤ length (now part)) × (length (now part) < 2 ^ 32) ⌝ }
     ensures { λ r. ⌜ (r ≤ turns * 960) × (r ≡ sum (take (turns * 960) (drop (first * 8) (bitsOf (now (part .entry)))))) ⌝ }
@@ -120,7 +120,8 @@ fn ones_in_few(part: &[u8], first: usize, words: usize) -> usize
     count
 }
 
-// How many bits are 1 in the words from byte `first` on: of many first all but the last fourteen at most.
+// How many bits are 1 in the words from byte `first` on: of 30 and more, first those that the streams have in an even number of turns, since
+// a wide read has two turns' words, and then what is left.
 fn ones_in_words(part: &[u8], first: usize, words: usize) -> usize
     requires { ⌜ (first + words * 8 ≤ length (now part)) × (length (now part) < 2 ^ 32) ⌝ }
     ensures { λ r. ⌜ (r ≤ words * 64) × (r ≡ sum (take (words * 64) (drop (first * 8) (bitsOf (now (part .entry)))))) ⌝ }

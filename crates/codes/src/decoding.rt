@@ -155,7 +155,8 @@ fn merge_each(
     kept
 }
 
-// The same, with the small widths as constants, of which the compiler makes faster shifts.
+// The same, with the small widths as constants, of which the compiler makes faster shifts. It would join calls that differ in one constant,
+// so the width comes with its power.
 fn merge_many(
     values: &mut [u32],
     part: &[u8],
@@ -173,54 +174,22 @@ fn merge_many(
 {
     let b = radix.bits;
     match b {
-        1 => merge_each(
-            values,
-            part,
-            radix_of(1),
-            at,
-            n,
-            from,
-            k,
-            kept,
-            mores,
-            chunks,
-        ),
-        2 => merge_each(
-            values,
-            part,
-            radix_of(2),
-            at,
-            n,
-            from,
-            k,
-            kept,
-            mores,
-            chunks,
-        ),
-        3 => merge_each(
-            values,
-            part,
-            radix_of(3),
-            at,
-            n,
-            from,
-            k,
-            kept,
-            mores,
-            chunks,
-        ),
-        4 => merge_each(
-            values,
-            part,
-            radix_of(4),
-            at,
-            n,
-            from,
-            k,
-            kept,
-            mores,
-            chunks,
-        ),
+        1 => {
+            let one = radix_of(1);
+            merge_each(values, part, one, at, n, from, k, kept, mores, chunks)
+        }
+        2 => {
+            let two = radix_of(2);
+            merge_each(values, part, two, at, n, from, k, kept, mores, chunks)
+        }
+        3 => {
+            let three = radix_of(3);
+            merge_each(values, part, three, at, n, from, k, kept, mores, chunks)
+        }
+        4 => {
+            let four = radix_of(4);
+            merge_each(values, part, four, at, n, from, k, kept, mores, chunks)
+        }
         _ => merge_each(values, part, radix, at, n, from, k, kept, mores, chunks),
     }
 }

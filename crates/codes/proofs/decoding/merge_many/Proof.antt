@@ -10,8 +10,8 @@ radix-of-requires c κs = search needs
 merge-each-requires : tie.Need-merge-each-requires
 merge-each-requires c κs =
     let p = c .before .before .before .before .before .pre in
-    let e = c .radix-of .ensures .0 ∙ sym (c .before .before .match .keys1) in
-    (c .radix-of .ensures .1, rw e (p .1), p .2, rw e (p .3))
+    let e = c .before .radix-of .ensures .0 ∙ sym (c .before .before .match .keys1) in
+    (c .before .radix-of .ensures .1, rw e (p .1), p .2, rw e (p .3))
 
 radix-of-requires-2 : tie.Need-radix-of-requires-2
 radix-of-requires-2 c κs = search needs
@@ -19,8 +19,8 @@ radix-of-requires-2 c κs = search needs
 merge-each-requires-2 : tie.Need-merge-each-requires-2
 merge-each-requires-2 c κs =
     let p = c .before .before .before .before .before .pre in
-    let e = c .radix-of2 .ensures .0 ∙ sym (c .before .before .match .keys2) in
-    (c .radix-of2 .ensures .1, rw e (p .1), p .2, rw e (p .3))
+    let e = c .before .radix-of2 .ensures .0 ∙ sym (c .before .before .match .keys2) in
+    (c .before .radix-of2 .ensures .1, rw e (p .1), p .2, rw e (p .3))
 
 radix-of-requires-3 : tie.Need-radix-of-requires-3
 radix-of-requires-3 c κs = search needs
@@ -28,8 +28,8 @@ radix-of-requires-3 c κs = search needs
 merge-each-requires-3 : tie.Need-merge-each-requires-3
 merge-each-requires-3 c κs =
     let p = c .before .before .before .before .before .pre in
-    let e = c .radix-of3 .ensures .0 ∙ sym (c .before .before .match .keys3) in
-    (c .radix-of3 .ensures .1, rw e (p .1), p .2, rw e (p .3))
+    let e = c .before .radix-of3 .ensures .0 ∙ sym (c .before .before .match .keys3) in
+    (c .before .radix-of3 .ensures .1, rw e (p .1), p .2, rw e (p .3))
 
 radix-of-requires-4 : tie.Need-radix-of-requires-4
 radix-of-requires-4 c κs = search needs
@@ -37,8 +37,8 @@ radix-of-requires-4 c κs = search needs
 merge-each-requires-4 : tie.Need-merge-each-requires-4
 merge-each-requires-4 c κs =
     let p = c .before .before .before .before .before .pre in
-    let e = c .radix-of4 .ensures .0 ∙ sym (c .before .before .match .keys4) in
-    (c .radix-of4 .ensures .1, rw e (p .1), p .2, rw e (p .3))
+    let e = c .before .radix-of4 .ensures .0 ∙ sym (c .before .before .match .keys4) in
+    (c .before .radix-of4 .ensures .1, rw e (p .1), p .2, rw e (p .3))
 
 merge-each-requires-5 : tie.Need-merge-each-requires-5
 merge-each-requires-5 c κs = search needs
@@ -48,7 +48,7 @@ same-length c = search needs
 
 returns : tie.Need-returns
 returns c =
-    let e = c .before .before .before .radix-of .ensures .0 ∙ sym (c .before .before .before .before .before .match .keys1) in
+    let e = c .before .before .before .before .radix-of .ensures .0 ∙ sym (c .before .before .before .before .before .match .keys1) in
     rw e at (c .before .before .merge-each .ensures)
 
 same-length-2 : tie.Need-same-length-2
@@ -56,7 +56,7 @@ same-length-2 c = search needs
 
 returns-2 : tie.Need-returns-2
 returns-2 c =
-    let e = c .before .before .before .radix-of2 .ensures .0 ∙ sym (c .before .before .before .before .before .match .keys2) in
+    let e = c .before .before .before .before .radix-of2 .ensures .0 ∙ sym (c .before .before .before .before .before .match .keys2) in
     rw e at (c .before .before .merge-each2 .ensures)
 
 same-length-3 : tie.Need-same-length-3
@@ -64,7 +64,7 @@ same-length-3 c = search needs
 
 returns-3 : tie.Need-returns-3
 returns-3 c =
-    let e = c .before .before .before .radix-of3 .ensures .0 ∙ sym (c .before .before .before .before .before .match .keys3) in
+    let e = c .before .before .before .before .radix-of3 .ensures .0 ∙ sym (c .before .before .before .before .before .match .keys3) in
     rw e at (c .before .before .merge-each3 .ensures)
 
 same-length-4 : tie.Need-same-length-4
@@ -72,7 +72,7 @@ same-length-4 c = search needs
 
 returns-4 : tie.Need-returns-4
 returns-4 c =
-    let e = c .before .before .before .radix-of4 .ensures .0 ∙ sym (c .before .before .before .before .before .match .keys4) in
+    let e = c .before .before .before .before .radix-of4 .ensures .0 ∙ sym (c .before .before .before .before .before .match .keys4) in
     rw e at (c .before .before .merge-each4 .ensures)
 
 same-length-5 : tie.Need-same-length-5
