@@ -100,10 +100,3 @@ from-one-at limit (v ∷ vs) h zero k =
     let t = and-eq-true-iff (ltb 0 v) (ltb v limit) .0 (and-eq-true-iff (ltb 0 v && ltb v limit) (fromOne limit vs) .0 h .0) in
     (ltb-true 0 v (t .0), ltb-true v limit (t .1))
 from-one-at limit (v ∷ vs) h (suc q) k = from-one-at limit vs (and-eq-true-iff (ltb 0 v && ltb v limit) (fromOne limit vs) .0 h .1) q (le-of-suc-le-suc k)
-
-pub from-one-not : (limit : ℕ) (vs : List ℕ) (q : ℕ) → q < length vs → (FromOne limit (getD vs q 0) → ⊥) → fromOne limit vs ≡ false
-from-one-not limit vs q k l = go (fromOne limit vs) refl
-  where
-    go : (t : Bool) → fromOne limit vs ≡ t → t ≡ false
-    go true e = absurd (l (from-one-at limit vs e q k))
-    go false e = refl

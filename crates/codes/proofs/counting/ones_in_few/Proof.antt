@@ -5,7 +5,7 @@ use Prim.Native.Nat.{_≤_, _*_, _-_, _+_}
 use native.Mathlib.Omega.{arith}
 use lib.ListN.{take, drop}
 use Rattle.codes.specs.Bits.{sum, bitsOf}
-use Rattle.codes.proofs.Words.{ones-more, sum-part-le}
+use Rattle.codes.proofs.Words.{ones-more}
 use Rattle.codes.proofs.counting.ones_in_few.Statement.{statement}
 use Rattle.codes.proofs.counting.ones_in_few.Tie as tie
 

@@ -3,7 +3,7 @@ use native.Mathlib.Omega.{arith}
 use mathlib.Core.Path.{_≡_, refl, sym, _∙_}
 use mathlib.Core.Bool.{Bool, true, false}
 use mathlib.Core.List.{List}
-use Prim.Native.Nat.{ℕ, suc, _+_, _-_, _*_, _/_, _%_, _^_, _≤_, _<_}
+use Prim.Native.Nat.{ℕ, _+_, _-_, _*_, _/_, _%_, _^_, _≤_, _<_}
 use native.Mathlib.Nat.{div-lt-iff-lt-mul, div-eq-of-lt}
 use lib.Bits.{bitOr, or-lt, or-add-and, and-le-l, and-le-r}
 use lib.ListN.{take, getD, length}
@@ -12,7 +12,7 @@ use lib.Pow.{pow-pos, pow-mono}
 use lib.Seq.{length-take-le, getD-take}
 use borrow.Author.Tests.{eqb-true, eqb-false}
 use Rattle.codes.specs.Decode.{fromOne}
-use Rattle.codes.proofs.Merges.{FromOne, from-one-all, from-one-at, from-one-not}
+use Rattle.codes.proofs.Merges.{FromOne, from-one-all, from-one-at}
 use Rattle.codes.proofs.decoding.all_small.Statement.{statement}
 use Rattle.codes.proofs.decoding.all_small.Tie as tie
 
