@@ -83,8 +83,8 @@ pub(crate) fn node_of(n: usize, i: usize) -> usize
     (2 * first + place) >> (usize::trailing_zeros(place) + 1)
 }
 
-// Where the stretch of v starts, which has no pins: v is the missing child that a walk comes to. Below the last level each number has a
-// position of its own; on the last level each that is missing leaves out one.
+// Where the stretch of a missing child v starts, which has no pins. From left to right the missing children are the places before, between
+// and after the times: first those below the last level, then those on it.
 pub(crate) fn missing_at(n: usize, v: usize) -> usize
     requires { ⌜ (n < v) × (v / 2 ≤ n) × (n < 2 ^ 62) ⌝ }
     ensures { λ r. ⌜ r ≡ stretch n v .start ⌝ }

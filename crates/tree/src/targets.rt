@@ -54,7 +54,8 @@ pub(crate) fn left_by(times: &[u32], count: usize, target: u32) -> usize
 }
 
 // Opens nodes from a point on: to the left child where a node's time is at or above the target, else to the right one, until no child.
-// `opened` nodes have been opened before. A later target goes mostly to the left, so its side is one branch, which is mostly foretold.
+// `opened` nodes have been opened before. A later target goes mostly to the left, so its side is one branch, which is mostly foretold. The
+// missing child that it comes to stands just before the deepest remembered node, or at the end.
 pub(crate) fn go_down<'a>(
     known: &[u32],
     s: &[u8],
