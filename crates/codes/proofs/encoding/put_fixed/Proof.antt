@@ -4,10 +4,9 @@ use mathlib.Core.Path.{_≡_, ap}
 use mathlib.Core.List.{List}
 use Prim.Native.Nat.{ℕ, _+_, _-_, _*_, _/_, _≤_}
 use native.Mathlib.Nat.{mul-le-mul-right}
-use lib.ListN.{length, take, drop, length-drop}
+use lib.ListN.{length, drop, length-drop}
 use lib.Seq.{take-length, length-take-le}
 use borrow.Author.Needs.{needs}
-use Rattle.codes.specs.Bits.{fixed}
 use Rattle.codes.proofs.BitsWritten.{wrote-both}
 use Rattle.codes.proofs.LayersWritten.{fixed-add, length-fixed-take}
 use Rattle.codes.proofs.encoding.put_fixed.Statement.{statement}
