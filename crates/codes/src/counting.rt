@@ -71,7 +71,8 @@ fn add_two(part: &[u8], a: u64, first: usize, step: usize) -> Sum
     add_bits(a, ones_word(part, first), ones_word(part, first + step))
 }
 
-// How many bits are 1 in fifteen words, each `step` bytes after the one before. Added up they are four words to count.
+// How many bits are 1 in fifteen words, each `step` bytes after the one before. Added up they are four words to count: a to g add the words,
+// which leaves one word of ones and seven of twos; p to r add the twos, which leaves one of these and three of fours.
 fn ones_in_fifteen(part: &[u8], first: usize, step: usize) -> usize
     requires { ⌜ (first + 14 * step + 8 ≤ length (now part)) × (length (now part) < 2 ^ 32) ⌝ }
     ensures { λ r. ⌜ (r ≤ 960) × (r ≡ inStreams 15 1 (now (part .entry)) first step) ⌝ }
