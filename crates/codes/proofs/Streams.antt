@@ -13,14 +13,14 @@ use Rattle.codes.proofs.Words.{ones-more}
 
 -- ---- words that are added up
 
--- the low bits and the high bits of the sums of three bits, in each place
-abbrev low : ℕ → ℕ → ℕ → ℕ
-low a b c = bitXor (bitXor a b) c
+-- of the sum of three bits, in each place, the low bit and the high bit
+abbrev parity : ℕ → ℕ → ℕ → ℕ
+parity a b c = bitXor (bitXor a b) c
 
-abbrev high : ℕ → ℕ → ℕ → ℕ
-high a b c = bitOr (bitAnd a b) (bitAnd (bitXor a b) c)
+abbrev carry : ℕ → ℕ → ℕ → ℕ
+carry a b c = bitOr (bitAnd a b) (bitAnd (bitXor a b) c)
 
-digits-added : (a b c : ℕ) → a < 2 → b < 2 → c < 2 → low a b c + 2 * high a b c ≡ a + b + c
+digits-added : (a b c : ℕ) → a < 2 → b < 2 → c < 2 → parity a b c + 2 * carry a b c ≡ a + b + c
 digits-added zero zero zero x y z = refl
 digits-added zero zero (suc zero) x y z = refl
 digits-added zero zero (suc (suc c)) x y z = absurd (omega arith)
@@ -37,17 +37,17 @@ digits-added (suc zero) (suc zero) (suc (suc c)) x y z = absurd (omega arith)
 digits-added (suc zero) (suc (suc b)) c x y z = absurd (omega arith)
 digits-added (suc (suc a)) b c x y z = absurd (omega arith)
 
-low-step : (a b c : ℕ) → ones (low a b c) ≡ low (a % 2) (b % 2) (c % 2) + ones (low (a / 2) (b / 2) (c / 2))
-low-step a b c = rw (ones-step (low a b c), xor-mod (bitXor a b) c 1, xor-mod a b 1, xor-shr (bitXor a b) c 1, xor-shr a b 1)
+parity-step : (a b c : ℕ) → ones (parity a b c) ≡ parity (a % 2) (b % 2) (c % 2) + ones (parity (a / 2) (b / 2) (c / 2))
+parity-step a b c = rw (ones-step (parity a b c), xor-mod (bitXor a b) c 1, xor-mod a b 1, xor-shr (bitXor a b) c 1, xor-shr a b 1)
 
-high-step : (a b c : ℕ) → ones (high a b c) ≡ high (a % 2) (b % 2) (c % 2) + ones (high (a / 2) (b / 2) (c / 2))
-high-step a b c =
+carry-step : (a b c : ℕ) → ones (carry a b c) ≡ carry (a % 2) (b % 2) (c % 2) + ones (carry (a / 2) (b / 2) (c / 2))
+carry-step a b c =
     let u = bitAnd a b in
     let v = bitAnd (bitXor a b) c in
-    rw (ones-step (high a b c), or-mod u v 1, and-mod a b 1, and-mod (bitXor a b) c 1, xor-mod a b 1, or-shr u v 1, and-shr a b 1, and-shr (bitXor a b) c 1, xor-shr a b 1)
+    rw (ones-step (carry a b c), or-mod u v 1, and-mod a b 1, and-mod (bitXor a b) c 1, xor-mod a b 1, or-shr u v 1, and-shr a b 1, and-shr (bitXor a b) c 1, xor-shr a b 1)
 
--- the low bits and the high bits of the sums have the ones of all three
-pub ones-added : (k a b c : ℕ) → a < 2 ^ k → b < 2 ^ k → c < 2 ^ k → ones (low a b c) + 2 * ones (high a b c) ≡ ones a + ones b + ones c
+-- both together have the ones of all three
+pub ones-added : (k a b c : ℕ) → a < 2 ^ k → b < 2 ^ k → c < 2 ^ k → ones (parity a b c) + 2 * ones (carry a b c) ≡ ones a + ones b + ones c
 unfolding ones
 ones-added zero zero zero zero x y z = refl
 ones-added zero zero zero (suc c) x y z = absurd (omega arith)
@@ -56,7 +56,7 @@ ones-added zero (suc a) b c x y z = absurd (omega arith)
 ones-added (suc k) a b c x y z =
     let ih = ones-added k (a / 2) (b / 2) (c / 2) (omega arith) (omega arith) (omega arith) in
     let here = digits-added (a % 2) (b % 2) (c % 2) (omega arith) (omega arith) (omega arith) in
-    rw (low-step a b c, high-step a b c, ones-step a, ones-step b, ones-step c) (omega (arith, ih, here))
+    rw (parity-step a b c, carry-step a b c, ones-step a, ones-step b, ones-step c) (omega (arith, ih, here))
 
 -- ---- streams
 

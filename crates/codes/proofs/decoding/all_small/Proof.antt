@@ -17,7 +17,7 @@ use Rattle.codes.proofs.decoding.all_small.Statement.{statement}
 use Rattle.codes.proofs.decoding.all_small.Tie as tie
 
 -- the bits of the first i values, and of one less each, tell whether these are small
-pub record Joined (limit : ℕ) (values : List ℕ) (joined i : ℕ) : Type 0 where
+record Joined (limit : ℕ) (values : List ℕ) (joined i : ℕ) : Type 0 where
   pub all : joined < limit → (q : ℕ) → q < i → FromOne limit (getD values q 0)
   pub some : ((q : ℕ) → q < i → FromOne limit (getD values q 0)) → joined < limit
 
