@@ -17,7 +17,6 @@ use Rattle.codes.specs.Codes.{kindOf, kindBits, chunked, Within, Holds}
 use Rattle.codes.specs.Choice.{widest, size, offer, better, bestChunked, chosen}
 use Rattle.codes.specs.Promises.{Known}
 use Rattle.codes.proofs.Bits.{length-fixed}
-use Rattle.codes.proofs.ChunkCounts.{length-layer}
 use Rattle.codes.proofs.CodeByte.{kind-fixed, kind-chunked, kind-known}
 use Rattle.codes.proofs.Widths.{widest-holds, widest-least, widest-le}
 
@@ -86,13 +85,6 @@ module _ (P : Choice → Type 0) (vs : List ℕ) (chunk : (b : ℕ) → 1 ≤ b 
   chosen-ind : P (offer (widest vs) vs) → P (chosen vs)
   unfolding chosen
   chosen-ind p = better-ind P (offer (widest vs) vs) (bestChunked 7 vs) p (best-ind 7 (omega arith))
-
--- a chunked code has at least two bits for each value
-pub best-least : (vs : List ℕ) → Within 32 vs → length vs * 2 ≤ bestChunked 7 vs .size
-best-least vs h = best-ind (λ c. length vs * 2 ≤ c .size) vs chunk 7 (omega arith)
-  where
-    chunk : (b : ℕ) → 1 ≤ b → b ≤ 8 → length vs * 2 ≤ size (64 + b) vs
-    chunk b l k = rw (size-chunked b vs l k, length-layer b vs l h) (omega (arith, mul-le-mul-left {m = 2} {n = b + 1} (length vs) (omega arith)))
 
 pub chosen-holds : (vs : List ℕ) → Within 32 vs → Holds (kindOf (chosen vs .code)) vs
 chosen-holds vs h =

@@ -28,7 +28,7 @@ use Rattle.codes.proofs.Merges.{length-merged, merged-at, from-one-at}
 
 -- ---- fixed codes
 
-pub numbers-at : (w n : ℕ) (bs : List ℕ) (j : ℕ) → j < n → getD (numbers w n bs) j 0 ≡ number (take w (drop (j * w) bs))
+numbers-at : (w n : ℕ) (bs : List ℕ) (j : ℕ) → j < n → getD (numbers w n bs) j 0 ≡ number (take w (drop (j * w) bs))
 unfolding numbers
 numbers-at w zero bs j h = absurd (not-suc-le-zero h)
 numbers-at w (suc n) bs zero h = rw (zero-mul w)

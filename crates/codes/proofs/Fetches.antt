@@ -4,14 +4,18 @@ use mathlib.Core.Bool.{Bool, true, false, cond}
 use mathlib.Core.List.{List, [], _∷_, _++_, map, append-assoc}
 use Prim.Native.Nat.{ℕ, zero, suc, _+_, _*_, _/_, _%_, _^_, _≤_, _<_}
 use native.Mathlib.Nat.{zero-div, not-suc-le-zero, le-of-suc-le-suc, mod-add-div}
+use native.Mathlib.Decide.{decLt}
 use native.Mathlib.Omega.{arith}
 use lib.ListN.{length, take, drop, getD, length-append, length-map, length-drop, List·getD-append, List·getD-map}
 use lib.Seq.{take-at, drop-at, take-append-le, drop-append-add}
 use lib.Dec.{eqb, ltb}
 use borrow.Author.Tests.{le-ltb, lt-ltb, ltb-false, eqb-true, eqb-false}
-use Rattle.codes.specs.Bits.{number, sum, fixed}
-use Rattle.codes.specs.Codes.{continuation, rest, layers}
-use Rattle.codes.specs.Fetch.{Fetched, value, outside, fixedAt, extended, fetchLayers, chunkedAt}
+use Rattle.codes.specs.declared.kinds.Kind.{Kind}
+use Rattle.codes.specs.declared.kinds.Kind.the-variants.{Fixed, Chunked, Refused}
+use Rattle.codes.specs.Bits.{number, sum, fixed, bitsOf}
+use Rattle.codes.specs.Codes.{kindOf, continuation, rest, layers}
+use Rattle.codes.specs.Fetch.{Fetched, value, outside, fixedAt, extended, fetchLayers, chunkedAt, kindFetched, fetched, shortAt}
+use Rattle.codes.specs.Promises.{ShortFetches}
 use Rattle.codes.proofs.Bits.{length-fixed, fixed-at, number-bits}
 use Rattle.codes.proofs.Layers.{sum-continuations, rest-at, div-lt}
 
@@ -24,6 +28,26 @@ fixed-outside w j bs h = rw (lt-ltb (length bs) ((j + 1) * w) h)
 pub fixed-inside : (w j : ℕ) (bs : List ℕ) → (j + 1) * w ≤ length bs → fixedAt w j bs ≡ value (number (take w (drop (j * w) bs)))
 unfolding fixedAt
 fixed-inside w j bs h = rw (le-ltb (length bs) ((j + 1) * w) h)
+
+short-kind : (k : Kind) (count j : ℕ) (bs : List ℕ) → shortAt k j bs < 2 ^ 32 → kindFetched k count j bs ≡ value (shortAt k j bs)
+unfolding shortAt
+short-kind (Fixed w) count j bs h = elim (decLt 25 w) [
+  | yes a ↦ absurd (omega (arith, rw (lt-ltb 25 w a) at h))
+  | no a ↦ elim (decLt (length bs) 32) [
+    | yes b ↦ absurd (omega (arith, rw (le-ltb 25 w (omega arith), lt-ltb (length bs) 32 b) at h))
+    | no b ↦ elim (decLt (length bs) ((j + 1) * w)) [
+      | yes c ↦ absurd (omega (arith, rw (le-ltb 25 w (omega arith), le-ltb (length bs) 32 (omega arith), lt-ltb (length bs) ((j + 1) * w) c) at h))
+      | no c ↦ rw (le-ltb 25 w (omega arith), le-ltb (length bs) 32 (omega arith), le-ltb (length bs) ((j + 1) * w) (omega arith)) (fixed-inside w j bs (omega arith))
+    ]
+  ]
+]
+short-kind (Chunked b) count j bs h = absurd (omega arith)
+short-kind Refused count j bs h = absurd (omega arith)
+
+-- a short fetch that says something
+pub short-fetched : ShortFetches
+unfolding fetched
+short-fetched code count j bytes h = short-kind (kindOf code) count j (bitsOf bytes) h
 
 -- ---- chunked codes, without the number of layers
 

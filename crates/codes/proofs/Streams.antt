@@ -61,7 +61,7 @@ ones-added (suc k) a b c x y z =
 -- ---- streams
 
 -- the first j, and k after them
-pub streams-apart : (j k n : ℕ) (bytes : List ℕ) (first step : ℕ) → inStreams (j + k) n bytes first step ≡ inStreams j n bytes first step + inStreams k n bytes (first + j * step) step
+streams-apart : (j k n : ℕ) (bytes : List ℕ) (first step : ℕ) → inStreams (j + k) n bytes first step ≡ inStreams j n bytes first step + inStreams k n bytes (first + j * step) step
 unfolding inStreams
 streams-apart j zero n bytes first step = rw (add-zero j) (omega arith)
 streams-apart j (suc k) n bytes first step =

@@ -56,3 +56,15 @@ kindFetched Refused count j bs = outside
 
 unfoldable pub fetched : ℕ → ℕ → ℕ → List ℕ → Fetched
 fetched code count j bytes = kindFetched (kindOf code) count j (bitsOf bytes)
+
+-- ---- a short fetch
+
+-- A fixed value of at most 25 bits that lies in a part of 4 bytes or more; of any other nothing is said, by 2 ^ 32, which is no value.
+unfoldable pub shortAt : Kind → ℕ → List ℕ → ℕ
+shortAt (Fixed w) j bs =
+    cond (ltb 25 w) (2 ^ 32) (cond (ltb (length bs) 32) (2 ^ 32) (cond (ltb (length bs) ((j + 1) * w)) (2 ^ 32) (number (take w (drop (j * w) bs)))))
+shortAt (Chunked b) j bs = 2 ^ 32
+shortAt Refused j bs = 2 ^ 32
+
+abbrev pub shortFetched : ℕ → ℕ → List ℕ → ℕ
+shortFetched code j bytes = shortAt (kindOf code) j (bitsOf bytes)

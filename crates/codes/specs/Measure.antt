@@ -2,16 +2,11 @@
 use mathlib.Core.Path.{_≡_}
 use mathlib.Core.Bool.{cond}
 use mathlib.Core.List.{List, [], _∷_}
-use Prim.Native.Nat.{ℕ, _+_, _-_, _^_, _<_, _≤_}
+use Prim.Native.Nat.{ℕ, _+_, _-_, _≤_}
 use lib.Dec.{eqb}
 use lib.ListN.{length, getD}
 use Rattle.codes.specs.Codes.{rest, Within}
 use Rattle.codes.specs.Choice.{width}
-
--- r has as many bits as the widest value: w bits hold it exactly where they hold every value
-pub record Spans (vs : List ℕ) (r : ℕ) : Type 0 where
-  pub holds : (w : ℕ) → r < 2 ^ w → Within w vs
-  pub held : (w : ℕ) → Within w vs → r < 2 ^ w
 
 -- how many values have z zero bits above their highest one bit, of 32
 unfoldable pub tally : ℕ → List ℕ → ℕ

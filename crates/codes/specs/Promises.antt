@@ -1,5 +1,5 @@
 -- What is shown of the level codes besides each function's contract. proofs/Promises proves each, as
--- `round-trip`, `lengths`, `best-choice`, `code-known`, `least-width`, `decode-fetches`, `decode-back`, `decoded-part` and `chosen-parts`.
+-- `round-trip`, `lengths`, `best-choice`, `code-known`, `least-width`, `decode-fetches`, `decode-back`, `decoded-part`, `chosen-parts` and `short-fetches`.
 use mathlib.Core.Path.{_≡_}
 use mathlib.Core.Bool.{true}
 use mathlib.Core.List.{List, _++_, map}
@@ -10,7 +10,7 @@ use Rattle.codes.specs.declared.kinds.Kind.the-variants.{Fixed, Chunked,
 use Rattle.codes.specs.Bits.{sum, bitsOf, bytesFor}
 use Rattle.codes.specs.Codes.{kindOf, part, Within, Holds}
 use Rattle.codes.specs.Choice.{widthIn, chunks, size, chosen, isChosen}
-use Rattle.codes.specs.Fetch.{value, fetched}
+use Rattle.codes.specs.Fetch.{value, fetched, shortFetched}
 use Rattle.codes.specs.Decode.{all, decoded}
 
 -- 1. By any code that holds the values, a fetch from their part, followed by any bytes or none, gives each value back.
@@ -69,3 +69,7 @@ DecodedPart = (code n : ℕ) (bytes vs : List ℕ) → decoded code n bytes ≡ 
 pub record ChosenParts : Type 0 where
   pub told : (code : ℕ) (vs bytes : List ℕ) → isChosen code vs bytes ≡ true → (chosen vs .code ≡ code) × (part code vs ≡ bytes)
   pub back : (vs : List ℕ) → isChosen (chosen vs .code) vs (part (chosen vs .code) vs) ≡ true
+
+-- 10. A short fetch that says something says what any fetch finds, however many values there are.
+abbrev pub ShortFetches : Type 0
+ShortFetches = (code count j : ℕ) (bytes : List ℕ) → shortFetched code j bytes < 2 ^ 32 → fetched code count j bytes ≡ value (shortFetched code j bytes)

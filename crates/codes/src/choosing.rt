@@ -1,7 +1,5 @@
 // The code with fewest bits.
-use super::measuring::low_bits_in;
 use super::measuring::measure;
-use super::measuring::width_of;
 ghost use mathlib.Core.Path.{_≡_};
 ghost use mathlib.Core.List.{List};
 ghost use Prim.Native.Nat.{ℕ, _+_, _*_, _^_, _<_, _≤_};
@@ -16,11 +14,11 @@ pub struct Choice {
     pub size: usize,
 }
 
-// The least width that holds every value, which is 3 or more: none has more bits.
+// The least width that holds every value: none has more bits.
 fn fixed_width(over: [usize; 33]) -> usize
-    ensures { λ r. ⌜ (r ≤ 32) × ((vs : List ℕ) → Measured vs over → 2 < widest vs → r ≡ widest vs) ⌝ }
+    ensures { λ r. ⌜ (r ≤ 32) × ((vs : List ℕ) → Measured vs over → r ≡ widest vs) ⌝ }
 {
-    let mut w: usize = 3;
+    let mut w: usize = 0;
     while w < 32 && over[w] != 0 {
         w += 1;
     }
@@ -82,11 +80,6 @@ pub fn choose(values: &[u32]) -> Choice
     requires { ⌜ length (now values) < 2 ^ 32 ⌝ }
     ensures { λ r. ⌜ r ≡ chosen (now (values .entry)) ⌝ }
 {
-    let low = low_bits_in(values);
-    // A chunked code has at least two bits for each value.
-    if low < 4 {
-        return fixed(width_of(low), values.len());
-    }
     let over = measure(values);
     let fixed = fixed(fixed_width(over), values.len());
     let chunked = best_chunked(over, values.len());

@@ -9,7 +9,7 @@ ghost use mathlib.Core.Path.{_≡_};
 ghost use Prim.Native.Nat.{ℕ, _+_, _*_, _-_, _^_, _<_, _≤_};
 ghost use lib.ListN.{length, take, drop};
 ghost use Rattle.codes.specs.Bits.{number, sum, bitsOf};
-ghost use Rattle.codes.specs.Fetch.{value, found, fixedAt, chunkedAt, within32, fetched};
+ghost use Rattle.codes.specs.Fetch.{found, fixedAt, chunkedAt, within32, fetched, shortFetched};
 
 // What a fetch finds: a value, or that it passes its part or the value is 2^32 or more.
 pub enum Found {
@@ -118,13 +118,27 @@ pub fn fetch(part: &[u8], code: u8, count: usize, index: usize) -> Found
     }
 }
 
-// Value `index` of a level in a fixed code of 1 to 25 bits, where it lies in the part, and the part has 4 bytes or more. The number of
-// values is no matter.
-pub fn fetch_inside(part: &[u8], code: u8, index: usize) -> u32
-    requires { ⌜ (1 ≤ code) × (code ≤ 25) × (4 ≤ length (now part)) × (length (now part) < 2 ^ 32) ⌝ }
-    requires { ⌜ (index + 1) * code ≤ length (now part) * 8 ⌝ }
-    ensures { λ r. ⌜ ((count : ℕ) → value r ≡ fetched code count index (now (part .entry))) ⌝ }
+// Value `index` of a level in a fixed code of at most 25 bits, where it lies in the part and the part has 4 bytes or more; else 2^32,
+// which says nothing. It is short enough to stand in a walk's loop; `fetch` has every value. The number of values is no matter.
+pub fn fetch_short(part: &[u8], code: u8, index: usize) -> u64
+    requires { ⌜ (index < 2 ^ 32) × (length (now part) < 2 ^ 32) ⌝ }
+    ensures { λ r. ⌜ r ≡ shortFetched code index (now (part .entry)) ⌝ }
 {
-    let w = code as usize;
-    read_short(part, index * w, w)
+    let kind = kind_of(code);
+    match kind {
+        Kind::Fixed(w) => {
+            if w > 25 {
+                return LIMIT;
+            }
+            if part.len() < 4 {
+                return LIMIT;
+            }
+            if part.len() * 8 < (index + 1) * w {
+                return LIMIT;
+            }
+            read_short(part, index * w, w) as u64
+        }
+        Kind::Chunked(_) => LIMIT,
+        Kind::Refused => LIMIT,
+    }
 }

@@ -20,7 +20,7 @@ pub use encoding::copy_values;
 pub use encoding::encode;
 pub use fetching::Found;
 pub use fetching::fetch;
-pub use fetching::fetch_inside;
+pub use fetching::fetch_short;
 pub use kinds::Kind;
 pub use kinds::kind_of;
 pub use reading::least;

@@ -1,54 +1,9 @@
-// How many bits the values have: all of them together, and each.
+// How many bits the values have.
 ghost use mathlib.Core.Path.{_≡_};
 ghost use mathlib.Core.List.{List, [], _∷_};
 ghost use Prim.Native.Nat.{ℕ, _+_, _^_, _<_, _≤_};
-ghost use lib.ListN.{length, take, drop, getD};
-ghost use Rattle.codes.specs.Choice.{width, widest};
-ghost use Rattle.codes.specs.Measure.{Spans, tally, counted, Tallied, Measured};
-
-// The bits of `v` up to its highest one bit.
-pub(crate) fn width_of(v: u32) -> usize
-    ensures { λ r. ⌜ (r ≤ 32) × (r ≡ width v) ⌝ }
-{
-    32 - u32::leading_zeros(v) as usize
-}
-
-// The bits that any of the first `count` values has.
-fn bits_in_first(values: &[u32], count: usize) -> u32
-    requires { ⌜ count ≤ length (now values) ⌝ }
-    ensures { λ r. ⌜ Spans (take count (now (values .entry))) r ⌝ }
-{
-    let mut all: u32 = 0;
-    let mut i: usize = 0;
-    while i < count {
-        all = all | values[i];
-        i += 1;
-    }
-    all
-}
-
-// Those of the four from `i` on.
-fn bits_in_four(values: &[u32], i: usize) -> u32
-    requires { ⌜ i + 4 ≤ length (now values) ⌝ }
-    ensures { λ r. ⌜ Spans (take 4 (drop i (now (values .entry)))) r ⌝ }
-{
-    values[i] | values[i + 1] | (values[i + 2] | values[i + 3])
-}
-
-// Those of all values, or 4 or more where a value has more than two bits: there it stops early.
-pub(crate) fn low_bits_in(values: &[u32]) -> u32
-    ensures { λ r. ⌜ (r < 4 → Spans (now (values .entry)) r) ⌝ }
-    ensures { λ r. ⌜ (4 ≤ r → 2 < widest (now (values .entry))) ⌝ }
-{
-    let n = values.len();
-    let mut i = n % 8;
-    let mut all = bits_in_first(values, i);
-    while i < n && all < 4 {
-        all = all | (bits_in_four(values, i) | bits_in_four(values, i + 4));
-        i += 8;
-    }
-    all
-}
+ghost use lib.ListN.{length, take, getD};
+ghost use Rattle.codes.specs.Measure.{tally, counted, Tallied, Measured};
 
 // One value more with as many zero bits above its highest one bit.
 fn count(counts: &mut [u32; 33], v: u32)

@@ -92,7 +92,7 @@ pub(crate) fn read(part: &[u8], at: usize, w: usize) -> u64
 // The number that the `w` bits from bit `at` on spell, where 4 bytes have them: near the end of the part its last 4. It is shorter than
 // `read`, so that a walk can have it in its loop.
 pub(crate) fn read_short(part: &[u8], at: usize, w: usize) -> u32
-    requires { ⌜ (1 ≤ w) × (at % 8 + w ≤ 32) × (4 ≤ length (now part)) ⌝ }
+    requires { ⌜ (at % 8 + w ≤ 32) × (4 ≤ length (now part)) ⌝ }
     requires { ⌜ at + w ≤ length (now part) * 8 ⌝ }
     ensures { λ r. ⌜ r ≡ number (take w (drop at (bitsOf (now (part .entry))))) ⌝ }
 {
