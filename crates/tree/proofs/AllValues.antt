@@ -1,72 +1,154 @@
--- Levels decoded one after the other into the entries of their nodes.
+-- Levels decoded one after the other into the entries of their nodes: what all levels are decoded to is what each one is, and what is
+-- fetched for the nodes.
 use mathlib.Core.Path.{_≡_, refl, sym, ap, _∙_}
-use mathlib.Core.Bool.{true, false≢true}
-use mathlib.Core.List.{List, _++_}
-use Prim.Native.Nat.{ℕ, _+_, _-_, _*_, _^_, _≤_, _<_, min}
-use native.Mathlib.Decide.{decLt}
+use mathlib.Core.Bool.{true, false, false≢true}
+use mathlib.Core.List.{List, [], _++_, append-assoc, append-nil}
+use Prim.Native.Nat.{ℕ, zero, suc, _+_, _-_, _*_, _^_, _≤_, _<_, min}
+use native.Mathlib.Nat.{zero-add, suc-add, pow-succ'}
+use native.Mathlib.Numerals.{add-one}
+use native.Mathlib.Decide.{decLt, ℕ-discrete}
 use native.Mathlib.Omega.{arith}
-use lib.ListN.{length, take, drop, getD, List·getD-append}
-use lib.Seq.{length-take-le, getD-take, getD-append-add}
+use lib.ListN.{length, take, drop, getD, length-append, length-drop, drop-of-length-le}
+use lib.Seq.{length-take-le, take-all, take-at, drop-at, take-append-le, drop-append-le}
 use lib.Pow.{pow-pos}
-use borrow.Rule.Slice.PartMut.{midOf, postOf, putMid, same-len-mid, mid-len}
-use Rattle.codes.specs.Fetch.{value, fetched}
+use borrow.Rule.Slice.PartMut.{putMid, post-is}
 use Rattle.codes.specs.Decode.{Decoded, all, undecoded, decoded, isDecoded, decodedOr0}
 use Rattle.codes.proofs.Promises.{decode-fetches}
 use Rattle.tree.specs.declared.nodes.Levels.{Levels}
-use Rattle.tree.specs.Levels.{fetchedAt}
-use Rattle.tree.proofs.NodeFetches.{fetched-at}
+use Rattle.tree.specs.Shape.{height}
+use Rattle.tree.specs.Levels.{firstOf, countOf, codeOf, partOf, levelValues}
+use Rattle.tree.specs.DecodedLevels.{decodedAt, joined, decodedTo, decodedLevels}
+use Rattle.tree.specs.Merged.{KnownValues}
+use Rattle.tree.proofs.Heights.{height-bound, level-starts}
+use Rattle.tree.proofs.NodeFetches.{count-is}
+use Rattle.tree.proofs.LevelValues.{level-inside, known-from}
 
--- the nodes below `first` have their values
-abbrev pub KnownBefore : Levels → List ℕ → ℕ → List ℕ → Type 0
-KnownBefore levels s first values = (v : ℕ) → 1 ≤ v → v < first → v ≤ length values → fetchedAt levels s v ≡ value (getD values (v - 1) 0)
-
--- what a level that is decoded leaves in its entries
+-- what is decoded, as its buffer has it
 pub all-of : (n : ℕ) (x : Decoded) → isDecoded x ≡ true → x ≡ all (decodedOr0 n x)
 all-of n (all vs) e = refl
 all-of n undecoded e = absurd (false≢true e)
 
--- entries before a part that is put back, and those of the part
-getD-before : (a k i : ℕ) (xs ys : List ℕ) → a ≤ length xs → i < a → getD (putMid a k xs ys) i 0 ≡ getD xs i 0
-getD-before a k i xs ys h l =
-    List·getD-append (take a xs) (ys ++ postOf a k xs) 0 i (rw (length-take-le a xs h) l) ∙ getD-take a xs i 0 l
+not-all : (x : Decoded) → isDecoded x ≡ false → x ≡ undecoded
+not-all (all vs) e = absurd (false≢true (sym e))
+not-all undecoded e = refl
 
-getD-part : (a k j : ℕ) (xs ys : List ℕ) → a ≤ length xs → j < length ys → getD (putMid a k xs ys) (a + j) 0 ≡ getD ys j 0
-getD-part a k j xs ys h l =
-    ap (λ (m : ℕ). getD (putMid a k xs ys) (m + j) 0) (sym (length-take-le a xs h))
-    ∙ getD-append-add (take a xs) (ys ++ postOf a k xs) j 0 ∙ List·getD-append ys (postOf a k xs) 0 j l
+-- the entries up to the end of a part that is put back
+pub front-put : (a e b : ℕ) (xs ys : List ℕ) → a ≤ e → e ≡ min (length xs) b → length ys ≡ e - a → take b (putMid a (e - a) xs ys) ≡ take a xs ++ ys
+front-put a e b xs ys h m l =
+    let front = take a xs ++ ys in
+    let whole : putMid a (e - a) xs ys ≡ front ++ drop e xs = rw (post-is a e xs h) (sym (append-assoc (take a xs) ys (drop e xs))) in
+    let len : length front ≡ e = rw (length-append (take a xs) ys, length-take-le a xs (omega arith), l) (omega arith) in
+    elim (decLt (length xs) b) [
+      | yes k ↦ ap (take b) (whole ∙ ap (λ (zs : List ℕ). front ++ zs) (drop-of-length-le xs {i = e} (omega arith)) ∙ append-nil front) ∙ take-all b front (omega arith)
+      | no k ↦ ap (take b) whole ∙ take-at front (drop e xs) b (omega arith)
+    ]
 
--- the values of the level below d others
-pub level-count : (values : List ℕ) (d first last : ℕ) → first ≡ 2 ^ d → first ≤ length values → last ≡ min (length values) (2 * first - 1)
-    → length (midOf (first - 1) (last - (first - 1)) values) ≡ min (length values + 1 - 2 ^ d) (2 ^ d)
-level-count values d first last e room l = mid-len (first - 1) last values (omega arith) ∙ omega (arith, pow-pos d)
+-- a part of the first of two lists
+part-before : (a c : ℕ) (us ws : List ℕ) → a + c ≤ length us → take c (drop a (us ++ ws)) ≡ take c (drop a us)
+part-before a c us ws h = rw (drop-append-le a us ws (omega arith)) (take-append-le c (drop a us) ws (rw length-drop (omega arith)))
 
--- the level below d others, from node `first` to node `last`
-pub known-next : (levels : Levels) (s values part : List ℕ) (d first last count : ℕ) → levels .pins ≡ length values → first ≡ 2 ^ d → first ≤ length values
-    → last ≡ min (length values) (2 * first - 1) → count ≡ length (midOf (first - 1) (last - (first - 1)) values) → (x : Decoded)
-    → x ≡ decoded (getD (levels .codes) d 0) count (take (getD (levels .ends) (d + 1) 0 - getD (levels .ends) d 0) (drop (getD (levels .ends) d 0) s))
-    → isDecoded x ≡ true → part ≡ decodedOr0 count x → KnownBefore levels s first values
-    → KnownBefore levels s (2 * first) (putMid (first - 1) (last - (first - 1)) values part)
-known-next levels s values part d first last count pins e room l c x is done p before v a b k = elim (decLt v first) [
-  | yes h ↦ before v a h (omega arith) ∙ ap value (sym (getD-before (first - 1) (last - (first - 1)) (v - 1) values part (omega arith) (omega arith)))
-  | no h ↦
-      let place : first - 1 + (v - first) ≡ v - 1 = omega (arith, pow-pos d) in
-      fetched-at levels s d v (omega arith) (omega arith)
-      ∙ rw (all-count, ← e) (vs .1 (v - first) (omega (arith, inside, few)))
-      ∙ ap value (ap (λ (ys : List ℕ). getD ys (v - first) 0) (sym p) ∙ sym (rw place at (getD-part (first - 1) (last - (first - 1)) (v - first) values part (omega arith) (omega (arith, inside, few, part-length)))))
-]
-  where
-    vs : (length (decodedOr0 count x) ≡ count) × ((j : ℕ) → j < count
-        → fetched (getD (levels .codes) d 0) count j (take (getD (levels .ends) (d + 1) 0 - getD (levels .ends) d 0) (drop (getD (levels .ends) d 0) s)) ≡ value (getD (decodedOr0 count x) j 0))
-    vs = decode-fetches (getD (levels .codes) d 0) count _ (decodedOr0 count x) (sym is ∙ all-of count x done)
+module _ (levels : Levels) (s : List ℕ) where
+  abbrev n : ℕ
+  n = levels .pins
 
-    part-length : length part ≡ count
-    part-length = ap length p ∙ vs .0
+  -- the level below d others, by the numbers that the code has
+  pub decoded-level : (d : ℕ) → decodedAt levels s (suc d) ≡ decoded (getD (levels .codes) d 0) (min (n + 1 - 2 ^ d) (2 ^ d))
+      (take (getD (levels .ends) (d + 1) 0 - getD (levels .ends) d 0) (drop (getD (levels .ends) d 0) s))
+  unfolding partOf
+  decoded-level d = let e : suc d - 1 ≡ d = omega arith in rw (count-is n d, e, add-one d)
 
-    few : count ≡ last - (first - 1)
-    few = c ∙ mid-len (first - 1) last values (omega arith)
+  -- ---- one level more
 
-    inside : v ≤ length values
-    inside = omega (arith, same-len-mid (first - 1) (last - (first - 1)) values part (part-length ∙ c))
+  undecoded-stays : (k m : ℕ) → decodedTo levels s k ≡ undecoded → decodedTo levels s (m + k) ≡ undecoded
+  unfolding decodedTo
+  undecoded-stays k zero e = rw (zero-add k) e
+  undecoded-stays k (suc m) e = rw (suc-add m k, undecoded-stays k m e)
 
-    all-count : min (levels .pins + 1 - 2 ^ d) (2 ^ d) ≡ count
-    all-count = omega (arith, few, pow-pos d)
+  module _ (d count : ℕ) (us : List ℕ) (x : Decoded) (before : decodedTo levels s d ≡ all us) (is : decodedAt levels s (suc d) ≡ x) where
+    pub decoded-next : isDecoded x ≡ true → decodedTo levels s (d + 1) ≡ all (us ++ decodedOr0 count x)
+    unfolding decodedTo
+    decoded-next e = rw (add-one d, before, is) (ap (joined (all us)) (all-of count x e))
+
+    -- where it is not decoded, not all are
+    pub decoded-not : isDecoded x ≡ false → (k : ℕ) → d < k → decodedTo levels s k ≡ undecoded
+    unfolding decodedTo
+    decoded-not e k h =
+        let split : k - suc d + suc d ≡ k = omega arith in
+        rw split at (undecoded-stays (suc d) (k - suc d) (rw (before, is, not-all x e)))
+
+  -- ---- each level
+
+  record Joined (k : ℕ) (vs : List ℕ) : Type 0 where
+    front : List ℕ
+    last : List ℕ
+    before : decodedTo levels s k ≡ all front
+    level : decodedAt levels s (suc k) ≡ all last
+    are : vs ≡ front ++ last
+
+  joined-told : (k : ℕ) (vs : List ℕ) → decodedTo levels s (suc k) ≡ all vs → Joined k vs
+  unfolding decodedTo
+  joined-told k vs e = go (decodedTo levels s k) (decodedAt levels s (suc k)) refl refl e
+    where
+      go : (x y : Decoded) → decodedTo levels s k ≡ x → decodedAt levels s (suc k) ≡ y → joined x y ≡ all vs → Joined k vs
+      go (all us) (all ws) p q r = record { front = us; last = ws; before = p; level = q; are = cc }
+      go (all us) undecoded p q r = absurd (let z : _≡_ {A = ℕ} 0 1 = cc in omega arith)
+      go undecoded y p q r = absurd (let z : _≡_ {A = ℕ} 0 1 = cc in omega arith)
+
+  decoded-length : (k : ℕ) (ws : List ℕ) → decodedAt levels s (suc k) ≡ all ws → length ws ≡ countOf n (suc k)
+  decoded-length k ws e = decode-fetches (codeOf levels (suc k)) (countOf n (suc k)) (partOf levels s (suc k)) ws e .0
+
+  both : (m p : ℕ) → 1 ≤ p → p ≤ m → min m (p - 1) + min (m + 1 - p) p ≡ min m (2 * p - 1)
+  both m p h k = omega arith
+
+  -- the first k levels have as many values as nodes
+  decoded-count : (k : ℕ) (vs : List ℕ) → k ≤ height n → decodedTo levels s k ≡ all vs → length vs ≡ min n (2 ^ k - 1)
+  unfolding decodedTo
+  decoded-count zero vs h e = let z : vs ≡ [] = cc in rw z (omega arith)
+  decoded-count (suc k) vs h e =
+      let j = joined-told k vs e in
+      let f = decoded-count k (j .front) (omega arith) (j .before) in
+      let l = decoded-length k (j .last) (j .level) in
+      let p : suc k - 1 ≡ k = omega arith in
+      rw (j .are, length-append (j .front) (j .last), f, l, count-is n k, pow-succ' 2 k) (both n (2 ^ k) (pow-pos k) (rw p at (level-starts n (suc k) (omega arith) h)))
+
+  decoded-each : (k : ℕ) (vs : List ℕ) → k ≤ height n → decodedTo levels s k ≡ all vs → (l : ℕ) → 1 ≤ l → l ≤ k
+      → decodedAt levels s l ≡ all (take (countOf n l) (drop (firstOf l - 1) vs))
+  decoded-each zero vs h e l one few = absurd (omega arith)
+  decoded-each (suc k) vs h e l one few =
+      let j = joined-told k vs e in
+      let f = decoded-count k (j .front) (omega arith) (j .before) in
+      let m = decoded-length k (j .last) (j .level) in
+      elim (ℕ-discrete l (suc k)) [
+        | yes z ↦
+            let p : suc k - 1 ≡ k = omega arith in
+            let low : 2 ^ k ≤ n = rw p at (level-starts n (suc k) (omega arith) h) in
+            let len : length (j .front) ≡ firstOf (suc k) - 1 = rw p (omega arith) in
+            rw z (j .level ∙ ap all (sym (ap (λ (xs : List ℕ). take (countOf n (suc k)) (drop (firstOf (suc k) - 1) xs)) (j .are)
+            ∙ ap (take (countOf n (suc k))) (drop-at (j .front) (j .last) (firstOf (suc k) - 1) len) ∙ take-all (countOf n (suc k)) (j .last) (omega arith))))
+        | no z ↦
+            let at-most : l ≤ k = omega arith in
+            let in-front : firstOf l - 1 + countOf n l ≤ length (j .front) = rw f (level-inside n l k one at-most (omega arith)) in
+            decoded-each k (j .front) (omega arith) (j .before) l one at-most
+            ∙ ap all (sym (ap (λ (xs : List ℕ). take (countOf n l) (drop (firstOf l - 1) xs)) (j .are) ∙ part-before (firstOf l - 1) (countOf n l) (j .front) (j .last) in-front))
+      ]
+
+  -- ---- all levels
+
+  module _ (values : List ℕ) (e : decodedLevels levels s ≡ all values) where
+    pub values-count : length values ≡ n
+    values-count = decoded-count (height n) values (omega arith) e ∙ omega (arith, height-bound n)
+
+    pub decoded-values : (l : ℕ) → 1 ≤ l → l ≤ height n → decodedAt levels s l ≡ all (levelValues values l)
+    decoded-values l one few = rw values-count (decoded-each (height n) values (omega arith) e l one few)
+
+    -- by the numbers that the code has
+    pub level-decodes : (d : ℕ) → d < height n → let vs = levelValues values (suc d) in
+        decoded (getD (levels .codes) d 0) (length vs) (take (getD (levels .ends) (d + 1) 0 - getD (levels .ends) d 0) (drop (getD (levels .ends) d 0) s)) ≡ all vs
+    level-decodes d h =
+        let vs = levelValues values (suc d) in
+        let own = decoded-values (suc d) (omega arith) h in
+        ap (λ (m : ℕ). decoded (getD (levels .codes) d 0) m (take (getD (levels .ends) (d + 1) 0 - getD (levels .ends) d 0) (drop (getD (levels .ends) d 0) s)))
+        (decoded-length d vs own ∙ count-is n d) ∙ sym (decoded-level d) ∙ own
+
+    pub known-values : KnownValues levels s values
+    known-values = known-from levels s values values-count decoded-values

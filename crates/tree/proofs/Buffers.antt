@@ -1,12 +1,12 @@
 -- Entries written into a buffer one after the other.
-use mathlib.Core.Path.{_≡_, refl, sym, ap, _∙_}
+use mathlib.Core.Path.{_≡_, sym, ap, _∙_}
 use mathlib.Core.List.{List, [], _∷_, _++_, append-assoc, append-nil}
-use Prim.Native.Nat.{ℕ, zero, suc, _+_, _≤_, _<_}
+use Prim.Native.Nat.{ℕ, zero, suc, _+_, _-_, _≤_, _<_}
 use native.Mathlib.Nat.{zero-add, add-zero}
 use native.Mathlib.Omega.{arith}
-use lib.ListN.{length, take, drop, set, replicate, length-append, length-take, length-drop, length-replicate, take-append-drop}
+use lib.ListN.{length, take, drop, set, replicate, length-append, length-take, length-drop, length-replicate, take-append-drop, drop-of-length-le}
 use lib.Seq.{take-at, drop-at, drop-drop, length-take-le, append-snoc, sets-eq}
-use Rattle.tree.specs.Buffers.{replaced, Clear}
+use Rattle.tree.specs.Buffers.{replaced, filledTo}
 
 pub length-replaced : (out : List ℕ) (a : ℕ) (p : List ℕ) → a + length p ≤ length out → length (replaced out a p) ≡ length out
 length-replaced out a p h =
@@ -50,10 +50,6 @@ replaced-next out i x q h =
 pub replaced-front : (out entries : List ℕ) → replaced out 0 entries ≡ entries ++ drop (length entries) out
 replaced-front out entries = rw (zero-add (length entries))
 
--- what was written to the front
-pub front-of : (out : List ℕ) (p : List ℕ) (n : ℕ) → length p ≡ n → take n (replaced out 0 p) ≡ p
-front-of out p n e = take-at p (drop (0 + length p) out) n e
-
 -- the front of a new array
 pub new-room : (k n : ℕ) → n ≤ k → n ≤ length (replicate {A = ℕ} k 0)
 new-room k n h = rw length-replicate h
@@ -61,11 +57,18 @@ new-room k n h = rw length-replicate h
 pub new-front : (k n : ℕ) → n ≤ k → n ≡ length (take n (replicate {A = ℕ} k 0))
 new-front k n h = sym (length-take-le n (replicate {A = ℕ} k 0) (new-room k n h))
 
-pub new-clear : (k n : ℕ) → n ≤ k → Clear n (replicate k 0)
-new-clear k zero h = refl
-new-clear zero (suc n) h = absurd (omega arith)
-new-clear (suc k) (suc n) h = ap (λ (l : List ℕ). 0 ∷ l) (new-clear k n (omega arith))
+-- ---- a buffer that is 0 behind its entries
 
--- the front, which has been written to, is made 0 again
-pub clear-again : (n : ℕ) (front out : List ℕ) → length front ≡ n → Clear n out → replicate n 0 ++ drop n (front ++ drop n out) ≡ out
-clear-again n front out l e = rw (drop-at front (drop n out) n l, ← e) (take-append-drop n out)
+drop-zeros : (k n : ℕ) → drop k (replicate {A = ℕ} n 0) ≡ replicate (n - k) 0
+drop-zeros zero n = let e : n ≡ n - 0 = omega arith in ap (λ (m : ℕ). replicate {A = ℕ} m 0) e
+drop-zeros (suc k) zero = let e : 0 ≡ 0 - suc k = omega arith in ap (λ (m : ℕ). replicate {A = ℕ} m 0) e
+drop-zeros (suc k) (suc n) = let e : n - k ≡ suc n - suc k = omega arith in drop-zeros k n ∙ ap (λ (m : ℕ). replicate {A = ℕ} m 0) e
+
+pub filled-whole : (n : ℕ) (xs : List ℕ) → length xs ≡ n → filledTo n xs ≡ xs
+filled-whole n xs e = let none : n - length xs ≡ 0 = omega arith in rw none (append-nil xs)
+
+-- entries written to the front of n that were made 0
+pub filled-front : (n : ℕ) (out xs : List ℕ) {zs after : List ℕ} → length out ≡ n → zs ≡ replicate n 0 ++ drop n out → after ≡ replaced zs 0 xs → after ≡ filledTo n xs
+filled-front n out xs e z f =
+    let zeros = z ∙ ap (λ (zs : List ℕ). replicate n 0 ++ zs) (drop-of-length-le out {i = n} (omega arith)) ∙ append-nil (replicate n 0) in
+    f ∙ rw zeros (replaced-front (replicate n 0) xs ∙ ap (λ (zs : List ℕ). xs ++ zs) (drop-zeros (length xs) n))

@@ -29,6 +29,13 @@ pub above-child : (xs : List ℕ) (v : ℕ) → 2 ≤ v → timeAbove xs v ≡ t
 unfolding timeAbove
 above-child xs v h = rw (le-ltb v 2 h)
 
+-- a parent that has the list's time
+pub above-at : (xs : List ℕ) (fetch : ℕ → Fetched) (v : ℕ) → 1 ≤ v → (1 ≤ v / 2 → nodeTime fetch (v / 2) ≡ at (timeOf xs (v / 2))) → nodeTime fetch (v / 2) ≡ at (timeAbove xs v)
+above-at xs fetch v h r = elim (decLt v 2) [
+  | yes l ↦ let e : v / 2 ≡ 0 = omega arith in rw (e, above-root xs v l) (time-above fetch)
+  | no l ↦ rw (above-child xs v (omega arith)) (r (omega arith))
+]
+
 module _ (xs : List ℕ) (o : T (ordered xs)) where
   time-ordered : (u v : ℕ) → rank (length xs) u < rank (length xs) v → rank (length xs) v < length xs → timeOf xs u ≤ timeOf xs v
   unfolding timeOf
@@ -78,12 +85,7 @@ module _ (xs : List ℕ) (o : T (ordered xs)) where
       times-to : (f v : ℕ) → v ≤ f → 1 ≤ v → v ≤ length xs → nodeTime fetch v ≡ at (timeOf xs v)
       times-to zero v a b c = absurd (omega arith)
       times-to (suc f) v a b c =
-          time-step fetch v b
-          ∙ rw (parent (decLt v 2) (times-to f (v / 2) (half-le a)), holds v b c) (under-stored v b c)
-        where
-          parent : Dec (v < 2) → (1 ≤ v / 2 → v / 2 ≤ length xs → nodeTime fetch (v / 2) ≡ at (timeOf xs (v / 2))) → nodeTime fetch (v / 2) ≡ at (timeAbove xs v)
-          parent (yes h) r = let e : v / 2 ≡ 0 = omega arith in rw (e, above-root xs v h) (time-above fetch)
-          parent (no h) r = rw (above-child xs v (omega arith)) (r (omega arith) (omega arith))
+          time-step fetch v b ∙ rw (above-at xs fetch v b (λ d. times-to f (v / 2) (half-le a) d (omega arith)), holds v b c) (under-stored v b c)
 
       pub times-back : (v : ℕ) → 1 ≤ v → v ≤ length xs → nodeTime fetch v ≡ at (timeOf xs v)
       times-back v h k = times-to v v (le-refl v) h k

@@ -1,29 +1,24 @@
--- What a later target drops of the remembered nodes, and where it goes on.
-use mathlib.Core.Path.{_≡_, refl, ap, _∙_}
+-- What a target drops of the remembered nodes, where it goes on, and what a sweep answers by it.
+use mathlib.Core.Path.{_≡_, refl, sym, ap, subst, _∙_}
 use mathlib.Core.Bool.{Bool, true, false, cond}
-use mathlib.Core.List.{List, _∷_}
-use Prim.Native.Nat.{ℕ, zero, suc, _+_, _-_, _≤_, _<_}
+use mathlib.Core.List.{List, [], _∷_}
+use Prim.Native.Nat.{ℕ, zero, suc, _-_, _≤_, _<_}
 use native.Mathlib.Nat.{le-refl}
-use native.Mathlib.Decide.{decLt}
+use native.Mathlib.Decide.{ℕ-discrete}
 use native.Mathlib.Omega.{arith}
 use lib.Dec.{ltb}
-use lib.ListN.{length, getD}
-use borrow.Author.Tests.{lt-ltb, le-ltb}
+use lib.ListN.{getD}
+use borrow.Author.Tests.{eq-eqb, ne-eqb}
 use Rattle.tree.specs.declared.nodes.Levels.{Levels}
-use Rattle.tree.specs.declared.targets.Point.{Point}
-use Rattle.tree.specs.Shape.{height, childOf, stretch, rank}
-use Rattle.tree.specs.Levels.{Fits}
+use Rattle.tree.specs.declared.targets.Progress.{Progress}
+use Rattle.tree.specs.Shape.{childOf, stretch}
 use Rattle.tree.specs.Times.{Time, known, timesIn}
-use Rattle.tree.specs.Walks.{Answer, isBelow, position}
-use Rattle.tree.specs.Sweeps.{Sweep, dropped, positionThen, sweepFrom}
-use Rattle.tree.specs.Standing.{rootOf, Stands}
-use Rattle.tree.specs.Remembering.{Remembered, remembered, entries, keptIn, positionBy, leftBy, Keeps, Resumes, Rests, startAt, Between, droppedIn, targetIn, keptAfter}
-use Rattle.tree.proofs.Heights.{place-in}
-use Rattle.tree.proofs.Stretches.{stretch-root, stretch-child, pins-of-node, rank-in}
-use Rattle.tree.proofs.Walks.{child-bounds, parent-of, height-child}
-use Rattle.tree.proofs.NodeFetches.{pins-bound}
-use Rattle.tree.proofs.Remembering.{keeps-few, resumes-root}
-use Rattle.tree.proofs.Steps.{stands-at, root-depth, stands-root}
+use Rattle.tree.specs.Walks.{Answer, found, stopped, isBelow, keptFrom, targetFrom}
+use Rattle.tree.specs.Sweeps.{Dropped, dropped, Sweep, positionThen, sweepFrom}
+use Rattle.tree.specs.Remembering.{entries, leftBy, GoesOn, resumedAt, answerOn, keptOn, Comes}
+use Rattle.tree.proofs.Stretches.{stretch-child}
+use Rattle.tree.proofs.Steps.{stands-place, stands-rank, stands-end, kept-end, target-end}
+use Rattle.tree.proofs.Remembering.{place-side}
 
 -- ---- how many are left
 
@@ -32,11 +27,7 @@ unfolding leftBy
 left-step times t zero h = absurd (omega arith)
 left-step times t (suc c) h = let e : suc c - 1 ≡ c = omega arith in rw e
 
-left-none : (times : List ℕ) (t c : ℕ) → c ≡ 0 → leftBy times t c ≡ c
-unfolding leftBy
-left-none times t c e = rw e
-
-left-le : (times : List ℕ) (t c : ℕ) → leftBy times t c ≤ c
+pub left-le : (times : List ℕ) (t c : ℕ) → leftBy times t c ≤ c
 unfolding leftBy
 left-le times t zero = le-refl 0
 left-le times t (suc c) = go (ltb (getD times c 0) t) (left-le times t c)
@@ -45,169 +36,113 @@ left-le times t (suc c) = go (ltb (getD times c 0) t) (left-le times t c)
     go true h = omega arith
     go false h = le-refl (suc c)
 
--- a sweep with k nodes opened, which goes on from what is remembered
-abbrev pub sweepOn : Levels → List ℕ → Remembered → Bool → ℕ → List ℕ → Sweep
-sweepOn levels s w first k ts = sweepFrom (levels .pins) (timesIn levels s) (startAt (levels .pins) first) (keptIn w) k ts
+-- ---- nodes dropped
 
--- the next target, with k nodes opened, leaves m nodes remembered and goes on from a point
-pub record GoesOn (levels : Levels) (s : List ℕ) (w : Remembered) (first : Bool) (t k m : ℕ) (from : Point) : Type 0 where
-  pub drops : droppedIn levels s w first t ≡ record { from = from .v; kept = entries (w .nodes) m }
-  pub stands : Stands levels s (from .v) (height (from .v) - 1) (stretch (levels .pins) (from .v)) (from .above)
-  pub resumes : Resumes levels s (remembered m (w .nodes) (w .times)) (from .v) k
+-- how far a sweep has come that drops the last of c + 1 nodes
+abbrev oneLess : List ℕ → List ℕ → ℕ → ℕ → Progress
+oneLess nodes times c k = record { count = c; v = childOf true (getD nodes c 0); above = getD times c 0; opened = k }
 
-module _ (levels : Levels) (s : List ℕ) where
+goes-less : {levels : Levels} {s nodes times : List ℕ} {c v above k : ℕ} → GoesOn levels s nodes times (record { count = suc c; v = v; above = above; opened = k })
+    → GoesOn levels s nodes times (oneLess nodes times c k)
+unfolding entries
+goes-less {levels} {s} {nodes} {times} {c} g =
+    let e = g .entry c (le-refl (suc c)) in
+    let w = e .place .stands in
+    record {
+      nodes-size = g .nodes-size;
+      times-size = g .times-size;
+      entry = λ i h. g .entry i (omega arith);
+      place = place-side (e .place) (e .among) (e .time) true c (omega arith);
+      few = rw (stretch-child (levels .pins) true (getD nodes c 0) (w .one)) (omega (arith, g .few, g .place .ends, stands-rank w, stands-place w (e .among)));
+    }
+
+-- what target t drops, and where it goes on
+pub record Resumes (levels : Levels) (s nodes times : List ℕ) (t : ℕ) (p q : Progress) : Type 0 where
+  pub goes : GoesOn levels s nodes times q
+  pub drops : dropped (isBelow (timesIn levels s) t) (p .v) (entries nodes (p .count)) ≡ record { from = q .v; kept = entries nodes (q .count) }
+  pub same : q .opened ≡ p .opened
+
+module _ (levels : Levels) (s nodes times : List ℕ) (t : ℕ) where
+  -- it goes on as after the first drop
+  resumed-less : (c v above k : ℕ) → ltb (getD times c 0) t ≡ true
+      → resumedAt nodes times (record { count = suc c; v = v; above = above; opened = k }) t ≡ resumedAt nodes times (oneLess nodes times c k) t
+  unfolding leftBy
+  resumed-less c v above k b =
+      let m = leftBy times t c in
+      rw (b, ne-eqb m (suc c) (λ e. omega (arith, left-le times t c)))
+      (elim (ℕ-discrete m c) [
+        | yes e ↦ rw (eq-eqb m c e, e)
+        | no d ↦ rw (ne-eqb m c d)
+      ])
+
+  resumes-from : (c v above k : ℕ) → let p : Progress = record { count = c; v = v; above = above; opened = k } in
+      GoesOn levels s nodes times p → Resumes levels s nodes times t p (resumedAt nodes times p t)
+  unfolding leftBy entries dropped
+  resumes-from zero v above k g = record { goes = g; drops = refl; same = refl }
+  resumes-from (suc c) v above k g = go (ltb (getD times c 0) t) refl (resumes-from c _ _ k (goes-less g))
+    where
+      p : Progress
+      p = record { count = suc c; v = v; above = above; opened = k }
+
+      below : isBelow (timesIn levels s) t (getD nodes c 0) ≡ ltb (getD times c 0) t
+      below = ap (λ (z : Time). ltb (known z) t) (g .entry c (le-refl (suc c)) .time)
+
+      go : (b : Bool) → ltb (getD times c 0) t ≡ b → Resumes levels s nodes times t (oneLess nodes times c k) (resumedAt nodes times (oneLess nodes times c k) t)
+          → Resumes levels s nodes times t p (resumedAt nodes times p t)
+      go true e r = subst (Resumes levels s nodes times t p) (sym (resumed-less c v above k e)) (record { goes = r .goes; drops = rw (below, e) (r .drops); same = r .same })
+      go false e r = rw (e, eq-eqb (suc c) (suc c) refl) (record { goes = g; drops = rw (below, e); same = refl })
+
+  pub resumes : {p q : Progress} → GoesOn levels s nodes times p → q ≡ resumedAt nodes times p t → Resumes levels s nodes times t p q
+  resumes {p} g e = subst (Resumes levels s nodes times t p) (sym e) (resumes-from (p .count) (p .v) (p .above) (p .opened) g)
+
+-- ---- a target of a sweep
+
+-- the next target goes on from d
+abbrev nextFrom : ℕ → (ℕ → Time) → ℕ → ℕ → List ℕ → Dropped → Sweep
+nextFrom n time t k ts d = positionThen (targetFrom n time t (d .kept) k (d .from)) (λ j. sweepFrom n time (suc n) (keptFrom n time t (d .kept) (d .from)) j ts)
+
+-- no number above n is a node
+sweep-missing : (n : ℕ) (time : ℕ → Time) (u v : ℕ) → n < u → n < v → (kept : List ℕ) (k : ℕ) (ts : List ℕ) → sweepFrom n time u kept k ts ≡ sweepFrom n time v kept k ts
+unfolding sweepFrom dropped
+sweep-missing n time u v h i kept k [] = refl
+sweep-missing n time u v h i kept k (t ∷ ts) = by kept
+  where
+    none : (kept : List ℕ) → nextFrom n time t k ts (record { from = u; kept = kept }) ≡ nextFrom n time t k ts (record { from = v; kept = kept })
+    none kept = rw (target-end n time t kept k u h, target-end n time t kept k v i, kept-end n time t kept u h, kept-end n time t kept v i)
+
+    by : (kept : List ℕ) → nextFrom n time t k ts (dropped (isBelow time t) u kept) ≡ nextFrom n time t k ts (dropped (isBelow time t) v kept)
+    by [] = none []
+    by (w ∷ ws) = some (isBelow time t w)
+      where
+        some : (b : Bool) → nextFrom n time t k ts (cond b (dropped (isBelow time t) (childOf true w) ws) (record { from = u; kept = w ∷ ws }))
+            ≡ nextFrom n time t k ts (cond b (dropped (isBelow time t) (childOf true w) ws) (record { from = v; kept = w ∷ ws }))
+        some true = refl
+        some false = none (w ∷ ws)
+
+-- a sweep that has come so far
+abbrev pub sweepOn : Levels → List ℕ → List ℕ → Progress → List ℕ → Sweep
+sweepOn levels s nodes p ts = sweepFrom (levels .pins) (timesIn levels s) (p .v) (entries nodes (p .count)) (p .opened) ts
+
+module _ {levels : Levels} {s nodes times : List ℕ} {t : ℕ} {p q : Progress} (r : Resumes levels s nodes times t p q) (ts : List ℕ) where
   abbrev n : ℕ
   n = levels .pins
 
-  -- ---- nodes dropped, of which m of c are left
-
-  module _ (w : Remembered) (k : Keeps levels s w) (t : ℕ) where
-    abbrev read : ℕ → Time
-    read = timesIn levels s
-
-    -- the node to go on from
-    abbrev onFrom : ℕ → ℕ → ℕ → ℕ
-    onFrom from m c = cond (ltb m c) (childOf true (getD (w .nodes) m 0)) from
-
-    last-dropped : (from c m : ℕ) → m ≤ c → onFrom (childOf true (getD (w .nodes) c 0)) m c ≡ onFrom from m (suc c)
-    last-dropped from c m l = elim (decLt m c) [
-      | yes y ↦ rw (lt-ltb m c y, lt-ltb m (suc c) (omega arith))
-      | no y ↦ let e : m ≡ c = omega arith in rw (e, le-ltb c c (le-refl c), lt-ltb c (suc c) (le-refl (suc c)))
-    ]
-
-    dropped-in : (c : ℕ) → c ≤ w .count → (from : ℕ)
-        → dropped (isBelow read t) from (entries (w .nodes) c) ≡ record { from = onFrom from (leftBy (w .times) t c) c; kept = entries (w .nodes) (leftBy (w .times) t c) }
-    unfolding dropped entries leftBy
-    dropped-in zero h from = refl
-    dropped-in (suc c) h from =
-        rw (ap (λ (z : Time). ltb (known z) t) (k .entry c h .time))
-        (go (ltb (getD (w .times) c 0) t) (dropped-in c (omega arith) (childOf true (getD (w .nodes) c 0))) (left-le (w .times) t c))
-      where
-        go : (b : Bool) → dropped (isBelow read t) (childOf true (getD (w .nodes) c 0)) (entries (w .nodes) c)
-            ≡ record { from = onFrom (childOf true (getD (w .nodes) c 0)) (leftBy (w .times) t c) c; kept = entries (w .nodes) (leftBy (w .times) t c) }
-            → leftBy (w .times) t c ≤ c
-            → cond b (dropped (isBelow read t) (childOf true (getD (w .nodes) c 0)) (entries (w .nodes) c)) (record { from = from; kept = entries (w .nodes) (suc c) })
-            ≡ record { from = onFrom from (cond b (leftBy (w .times) t c) (suc c)) (suc c); kept = entries (w .nodes) (cond b (leftBy (w .times) t c) (suc c)) }
-        go true e l = e ∙ ap (λ (f : ℕ). record { from = f; kept = entries (w .nodes) (leftBy (w .times) t c) }) (last-dropped from c (leftBy (w .times) t c) l)
-        go false e l = rw (le-ltb (suc c) (suc c) (le-refl (suc c)))
-
-    pub dropped-none : (from : ℕ) → leftBy (w .times) t (w .count) ≡ w .count → dropped (isBelow read t) from (keptIn w) ≡ record { from = from; kept = keptIn w }
-    dropped-none from e = dropped-in (w .count) (le-refl (w .count)) from ∙ rw (e, le-ltb (w .count) (w .count) (le-refl (w .count)))
-
-    dropped-some : (from m : ℕ) → m ≡ leftBy (w .times) t (w .count) → m < w .count
-        → dropped (isBelow read t) from (keptIn w) ≡ record { from = childOf true (getD (w .nodes) m 0); kept = entries (w .nodes) m }
-    dropped-some from m e h = dropped-in (w .count) (le-refl (w .count)) from ∙ rw (← e, lt-ltb m (w .count) h)
-
-  -- ---- ranks fall from entry to entry
-
-  module _ (w : Remembered) (k : Keeps levels s w) where
-    -- the position where c nodes are remembered
-    abbrev positionOf : ℕ → ℕ
-    positionOf c = position n (entries (w .nodes) c)
-
-    -- an entry's rank is before the end of its stretch
-    rank-before : (i : ℕ) → i < w .count → rank n (getD (w .nodes) i 0) < positionOf i
-    rank-before i h = let e = k .entry i h in omega (arith, e .ends, rank-in n (getD (w .nodes) i 0) (e .one) (e .among))
-
-    position-le : (c : ℕ) → c ≤ w .count → positionOf c ≤ n
-    unfolding entries
-    position-le zero h = le-refl n
-    position-le (suc c) h = omega (arith, rank-before c h, position-le c (omega arith))
-
-    pub keeps-before-end : positionBy w n ≤ n
-    keeps-before-end = position-le (w .count) (le-refl (w .count))
-
-    position-falls : (c m : ℕ) → c ≤ w .count → m < c → positionOf c + c ≤ rank n (getD (w .nodes) m 0) + 1 + m
-    unfolding entries
-    position-falls zero m h l = absurd (omega arith)
-    position-falls (suc c) m h l = elim (decLt m c) [
-      | yes x ↦ omega (arith, position-falls c m (omega arith) x, rank-before c h)
-      | no x ↦ let e : m ≡ c = omega arith in rw e (omega arith)
-    ]
-
-  -- ---- where the walk goes on after nodes are dropped, m being left
-
-  module _ (w : Remembered) (p k : ℕ) (r : Rests levels s w p k) (m : ℕ) (h : m < w .count) where
-    abbrev node : ℕ
-    node = getD (w .nodes) m 0
-
-    -- the stretch after the node, which ends where the node's own does
-    onward-in : (stretch n (childOf true node) .start ≡ rank n node + 1)
-        × (stretch n (childOf true node) .start + stretch n (childOf true node) .pins ≡ positionOf w (r .keeps) m)
-    onward-in =
-        let e = r .keeps .entry m h in
-        let i = rank-in n node (e .one) (e .among) in
-        let q = place-in (stretch n node .pins) (pins-of-node n node (e .one) (e .among)) in
-        rw (stretch-child n true node (e .one)) (omega arith, omega (arith, e .ends))
-
-    stands-onward : Stands levels s (childOf true node) (height (childOf true node) - 1) (stretch n (childOf true node)) (getD (w .times) m 0)
-    stands-onward =
-        let e = r .keeps .entry m h in
-        stands-at levels s (childOf true node) (stretch n (childOf true node)) (getD (w .times) m 0) (omega (arith, child-bounds true node, e .one)) refl
-        (omega (arith, onward-in, position-le w (r .keeps) m (omega arith)))
-        (rw (parent-of true node) (e .time))
-
-    resumes-onward : Resumes levels s (remembered m (w .nodes) (w .times)) (childOf true node) k
-    resumes-onward =
-        let e = r .keeps .entry m h in
-        record {
-          keeps = record {
-            nodes-size = r .keeps .nodes-size;
-            times-size = r .keeps .times-size;
-            entry = λ i l. r .keeps .entry i (omega arith);
-          };
-          child = rw (parent-of true node) (e .among);
-          ends = onward-in .1;
-          deep = rw (height-child true node (e .one)) (omega (arith, e .deep));
-          few = omega (arith, onward-in, r .few, r .is, position-falls w (r .keeps) (w .count) m (le-refl (w .count)) h);
-        }
-
-    pub goes-onward : (first : Bool) (t : ℕ) → m ≡ leftBy (w .times) t (w .count)
-        → GoesOn levels s w first t k m (record { v = childOf true node; above = getD (w .times) m 0 })
-    goes-onward first t e = record {
-      drops = dropped-some w (r .keeps) t (startAt n first) m e h;
-      stands = stands-onward;
-      resumes = resumes-onward;
-    }
-
-  -- ---- where the first target goes on
-
-  pub goes-root : (w : Remembered) (p k t : ℕ) → Between levels s w p true k → GoesOn levels s w true t k (w .count) rootOf
-  goes-root w p k t b =
-      let z = b .1 refl in
-      record {
-        drops = dropped-none w (b .0 .keeps) t 1 (left-none (w .times) t (w .count) (z .0));
-        stands = rw (root-depth, stretch-root n) (stands-root levels s);
-        resumes = rw (z .1) (resumes-root levels s w (b .0 .keeps) (z .0));
-      }
-
-  -- ---- a target of a sweep
-
-  -- by what it answers
-  pub sweep-next : (w : Remembered) (first : Bool) (k t : ℕ) (ts : List ℕ) (a : Answer) → targetIn levels s w first t k ≡ a
-      → sweepOn levels s w first k (t ∷ ts) ≡ positionThen a (λ j. sweepFrom n (timesIn levels s) (suc n) (keptAfter levels s w first t) j ts)
+  -- by what the target answers
+  sweep-by : (a : Answer) → answerOn levels s t nodes q ≡ a
+      → sweepOn levels s nodes p (t ∷ ts) ≡ positionThen a (λ j. sweepFrom n (timesIn levels s) (suc n) (keptOn levels s t nodes q) j ts)
   unfolding sweepFrom
-  sweep-next w first k t ts a e = rw e
+  sweep-by a e = rw (r .drops, ← r .same, e)
 
--- ---- the numbers that the code takes from the arrays, where m nodes are left and one at least is dropped
+  pub sweep-stopped : (k c : ℕ) → answerOn levels s t nodes q ≡ stopped k c → sweepOn levels s nodes p (t ∷ ts) ≡ record { positions = []; answer = stopped k c }
+  sweep-stopped k c e = sweep-by (stopped k c) e
 
-pub record Onward (levels : Levels) (w : Remembered) (m : ℕ) : Type 0 where
-  pub less : m < w .count
-  pub under-16 : m < 16
-  pub in-nodes : m < length (w .nodes)
-  pub in-times : m < length (w .times)
-  pub node-in : getD (w .nodes) m 0 < 65536
-
-pub onward-bounds : {levels : Levels} {s : List ℕ} {w : Remembered} {p k m : ℕ} → Rests levels s w p k → Fits levels s → (t : ℕ) → m ≡ leftBy (w .times) t (w .count)
-    → (m ≡ w .count → ⊥) → Onward levels w m
-onward-bounds {levels} {s} {w} {p} {k} {m} r f t e d =
-    let h : m < w .count = omega (arith, left-le (w .times) t (w .count)) in
-    let few = pins-bound levels s f in
-    let u : m < 16 = omega (arith, keeps-few levels s w f (r .keeps)) in
-    record {
-      less = h;
-      under-16 = u;
-      in-nodes = rw (r .keeps .nodes-size) u;
-      in-times = rw (r .keeps .times-size) u;
-      node-in = omega (arith, r .keeps .entry m h .among);
-    }
+  -- it comes to a missing child, whose place is its position
+  pub sweep-next : {nodes' times' : List ℕ} {u : Progress} → Comes levels s t nodes q nodes' times' u → n < u .v
+      → sweepOn levels s nodes p (t ∷ ts) ≡ record { positions = stretch n (u .v) .start ∷ sweepOn levels s nodes' u ts .positions; answer = sweepOn levels s nodes' u ts .answer }
+  sweep-next {nodes'} {times'} {u} m h =
+      let read = timesIn levels s in
+      let kept = entries nodes' (u .count) in
+      let place = m .goes .place in
+      sweep-by (found (stretch n (u .v) .start) (u .opened))
+      (sym (m .answer) ∙ target-end n read t kept (u .opened) (u .v) h ∙ ap (λ (i : ℕ). found i (u .opened)) (sym (place .ends) ∙ stands-end (place .stands) h))
+      ∙ rw (← m .kept, kept-end n read t kept (u .v) h, sweep-missing n read (suc n) (u .v) (le-refl (suc n)) h kept (u .opened) ts)

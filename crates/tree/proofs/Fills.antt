@@ -29,7 +29,7 @@ module _ (xs : List ℕ) where
   correct-stays i a b (inl d) e = d ∙ e
   correct-stays i a b (inr z) e = z .1
 
-  pub filled-none : (v : ℕ) (before : List ℕ) → length xs < v → Filled xs v before before
+  filled-none : (v : ℕ) (before : List ℕ) → length xs < v → Filled xs v before before
   filled-none v before h = record {
     kept = refl;
     done = λ i u k. absurd (omega (arith, under-out (length xs) u h));
@@ -64,11 +64,6 @@ module _ (xs : List ℕ) where
       done i (below false u) k = correct-stays i _ _ (r .others i) (l .done i u k)
       done i (below true u) k = r .done i u k
 
-  pub filled-leaf : (v : ℕ) (before now : List ℕ) → 1 ≤ v → v ≤ length xs → v ≤ length before → now ≡ set before (v - 1) (stored xs v)
-      → length xs < 2 * v → Filled xs v before now
-  filled-leaf v before now one h room w last =
-      filled-node v before now now now one h room w (filled-none (2 * v) now last) (filled-none (2 * v + 1) now (omega arith))
-
   -- from the root on: the list's stored values, and what stood after them
   pub filled-all : (before after : List ℕ) → length xs ≤ length before → Filled xs 1 before after → after ≡ storedValues xs ++ drop (length xs) before
   filled-all before after room f = ext-getD 0 after (storedValues xs ++ drop (length xs) before) same-length (λ i h. entry i (decLt i (length xs)))
@@ -98,8 +93,8 @@ module _ (xs : List ℕ) where
 -- ---- one node
 
 module _ (xs : List ℕ) {v start pins : ℕ} (one : 1 ≤ v) (e : StretchIs (length xs) v start pins) where
-  pub fill-past : pins ≡ 0 → length xs < v
-  fill-past z = past-nodes (length xs) v one (rw e z)
+  pub filled-past : pins ≡ 0 → (before : List ℕ) → Filled xs v before before
+  filled-past z before = filled-none xs v before (past-nodes (length xs) v one (rw e z))
 
   pub fill-node : 1 ≤ pins → v ≤ length xs
   fill-node h = node-of-pins (length xs) v (rw e h)
@@ -109,10 +104,12 @@ module _ (xs : List ℕ) {v start pins : ℕ} (one : 1 ≤ v) (e : StretchIs (le
   fill-time = rw (rank-is (length xs) v e)
 
   -- a node with one pin has no children
-  pub fill-leaf : pins ≡ 1 → length xs < 2 * v
+  pub filled-leaf : pins ≡ 1 → {before now : List ℕ} → length xs ≤ length before → now ≡ set before (v - 1) (stored xs v) → Filled xs v before now
   unfolding childOf
-  fill-leaf p =
-      past-nodes (length xs) (2 * v) (omega arith) (rw (is-child false (length xs) one e, p) (omega (arith, place-small 1 (omega arith))))
+  filled-leaf p {before} {now} room w =
+      let k = fill-node (omega arith) in
+      let last = past-nodes (length xs) (2 * v) (omega arith) (rw (is-child false (length xs) one e, p) (omega (arith, place-small 1 (omega arith)))) in
+      filled-node xs v before now now now one k (omega arith) w (filled-none xs (2 * v) now last) (filled-none xs (2 * v + 1) now (omega arith))
 
   -- where the time stands of a node with one pin, and of one with two or three
   pub one-time : pins ≡ 1 → getD xs start 0 ≡ timeOf xs v

@@ -3,22 +3,20 @@
 use mathlib.Core.Path.{_≡_, refl, sym, ap, _∙_}
 use mathlib.Core.List.{List}
 use Prim.Native.Nat.{ℕ, suc, _+_, _-_, _*_, _/_, _%_, _^_, _≤_, _<_, min}
-use native.Mathlib.Nat.{pow-succ'}
+use native.Mathlib.Nat.{zero-add, pow-succ'}
 use native.Mathlib.Decide.{decLt, ℕ-discrete}
 use native.Mathlib.Omega.{arith}
 use lib.ListN.{length, take, drop, getD, set, length-set, length-drop}
 use lib.Seq.{length-take-le, getD-take, getD-drop, getD-set-same, getD-set-other}
 use lib.Pow.{pow-pos}
-use borrow.Author.Tests.{lt-ltb, le-ltb, eq-eqb, ne-eqb}
+use borrow.Author.Tests.{lt-ltb}
 use Rattle.codes.specs.Fetch.{value}
 use Rattle.tree.specs.declared.nodes.Levels.{Levels}
 use Rattle.tree.specs.Shape.{rank}
 use Rattle.tree.specs.Levels.{fetchedAt}
-use Rattle.tree.specs.Times.{at, under}
-use Rattle.tree.specs.Known.{KnownValues}
-use Rattle.tree.specs.Merged.{KnownRanks, MergedFrom, Merges, AllMerged}
-use Rattle.tree.proofs.NodeTimes.{time-step, time-left, time-right}
-use Rattle.tree.proofs.AllTimes.{timed-root}
+use Rattle.tree.specs.Times.{at, under, timesIn}
+use Rattle.tree.specs.Merged.{KnownValues, KnownRanks, MergedFrom, Merges, AllMerged}
+use Rattle.tree.proofs.NodeTimes.{time-above, time-step, time-left, time-right}
 use Rattle.tree.proofs.LevelRanks.{rank-last, rank-above}
 use Rattle.tree.proofs.Ranks.{rank-lt}
 
@@ -64,10 +62,6 @@ moved-all before above count i now stored h e w = rw (← e) record {
 
 module _ {before stored now : List ℕ} {above j : ℕ} (w : MergedFrom before stored above (suc j) now) (few : j < length stored) (full : length stored ≤ suc above)
     (room : above + length stored ≤ length before) (t : ℕ) (e : at t ≡ under (suc above + j) (at (getD before (j / 2 * 2) 0)) (value (getD stored j 0))) where
-  -- an entry that is not read yet
-  pub merged-unread : (i : ℕ) → i ≤ 2 * j → getD now i 0 ≡ getD before i 0
-  merged-unread i h = w .unread i (omega arith)
-
   nodes-next : (now′ : List ℕ) → getD now′ (2 * j) 0 ≡ t → ((i : ℕ) → 2 * j < i → getD now′ i 0 ≡ getD now i 0)
       → (i : ℕ) → j ≤ i → i < length stored → at (getD now′ (2 * i) 0) ≡ under (suc above + i) (at (getD before (i / 2 * 2) 0)) (value (getD stored i 0))
   nodes-next now′ own same i h k = elim (ℕ-discrete i j) [
@@ -76,7 +70,7 @@ module _ {before stored now : List ℕ} {above j : ℕ} (w : MergedFrom before s
   ]
 
   -- the first node, before the first entry
-  pub merged-first : j ≡ 0 → MergedFrom before stored above j (set now (2 * j) t)
+  merged-first : j ≡ 0 → MergedFrom before stored above j (set now (2 * j) t)
   merged-first z = record {
     kept = length-set now (2 * j) t ∙ w .kept;
     unread = λ i h. absurd (omega arith);
@@ -85,7 +79,7 @@ module _ {before stored now : List ℕ} {above j : ℕ} (w : MergedFrom before s
   }
 
   -- a later one, and the entry before it
-  pub merged-next : 1 ≤ j → MergedFrom before stored above j (set (set now (2 * j) t) (2 * j - 1) (getD before (j - 1) 0))
+  merged-next : 1 ≤ j → MergedFrom before stored above j (set (set now (2 * j) t) (2 * j - 1) (getD before (j - 1) 0))
   merged-next one = record {
     kept = length-set now′ (2 * j - 1) x ∙ length-set now (2 * j) t ∙ w .kept;
     unread = λ i h. other i (λ q. omega arith) (λ q. omega arith) ∙ w .unread i (omega arith);
@@ -144,7 +138,7 @@ merges-right stored was q few fits before above odd full room w =
 -- ---- the whole level
 
 -- with the nodes above at their ranks, all are at theirs
-pub merged-ranks : (levels : Levels) (s before stored now : List ℕ) (above j : ℕ) → suc above ≡ 2 ^ suc j → 1 ≤ length stored → length stored ≤ suc above
+merged-ranks : (levels : Levels) (s before stored now : List ℕ) (above j : ℕ) → suc above ≡ 2 ^ suc j → 1 ≤ length stored → length stored ≤ suc above
     → ((i : ℕ) → i < length stored → fetchedAt levels s (suc above + i) ≡ value (getD stored i 0))
     → MergedFrom before stored above 0 now → KnownRanks levels s above before → KnownRanks levels s (above + length stored) now
 merged-ranks levels s before stored now above j full some few values w known v a b = elim (decLt above v) [
@@ -166,12 +160,22 @@ merged-ranks levels s before stored now above j full some few values w known v a
 
 -- ---- all levels
 
+-- how many nodes the level from `first` to `last` has
+pub span-length : (first last : ℕ) (values : List ℕ) → last ≤ length values → length (take (last - (first - 1)) (drop (first - 1) values)) ≡ last - (first - 1)
+span-length first last values h = length-take-le (last - (first - 1)) (drop (first - 1) values) (rw length-drop (omega arith))
+
 -- the levels before node `first` are merged
 pub record Grown (values before : List ℕ) (first : ℕ) (now : List ℕ) : Type 0 where
   pub depth : ℕ
   pub power : first ≡ 2 ^ suc depth
   pub kept : length now ≡ length before
   pub listed : (levels : Levels) (s : List ℕ) → KnownValues levels s values → KnownRanks levels s (min (first - 1) (length values)) now
+
+-- the root stores its time
+root-time : (levels : Levels) (s values : List ℕ) → KnownValues levels s values → 1 ≤ length values → getD values 0 0 < 2 ^ 32 → timesIn levels s 1 ≡ at (getD values 0 0)
+root-time levels s values known h fits =
+    let f : 1 / 2 ≡ 0 = omega arith in
+    rw (time-step (fetchedAt levels s) 1 (omega arith), f, time-above (fetchedAt levels s), known 1 (omega arith) h, zero-add, lt-ltb (getD values 0 0) 4294967296 fits)
 
 -- the root stores its time
 pub grown-root : (values now : List ℕ) → 1 ≤ length values → getD now 0 0 ≡ getD values 0 0 → getD values 0 0 < 2 ^ 32 → Grown values now 2 now
@@ -182,7 +186,7 @@ grown-root values now some own fits = record {
   listed = λ levels s known v a b.
       let e : v ≡ 1 = omega arith in
       let n : min (2 - 1) (length values) ≡ 1 = omega arith in
-      rw (e, n, rank-last 1 0 1 (omega arith) (omega arith) (omega arith) (omega arith), own) (timed-root values fits .times levels s known 1 (omega arith) (omega arith) some);
+      rw (e, n, rank-last 1 0 1 (omega arith) (omega arith) (omega arith) (omega arith), own) (root-time levels s values known some fits);
 }
 
 module _ (values before : List ℕ) (first : ℕ) (now : List ℕ) (g : Grown values before first now) where
@@ -201,14 +205,11 @@ module _ (values before : List ℕ) (first : ℕ) (now : List ℕ) (g : Grown va
       some : 2 ≤ first
       some = omega (arith, g .power, pow-pos (g .depth))
 
-      last-in : last ≤ length values
-      last-in = omega arith
-
       count : length stored ≡ last - (first - 1)
-      count = ap length se ∙ length-take-le (last - (first - 1)) (drop (first - 1) values) (rw length-drop (omega (arith, some)))
+      count = ap length se ∙ span-length first last values (omega arith)
 
       node-in : (i : ℕ) → i < length stored → first + i ≤ length values
-      node-in i k = omega (arith, count, last-in, some)
+      node-in i k = omega (arith, count, some)
 
       listed : (levels : Levels) (s : List ℕ) → KnownValues levels s values → KnownRanks levels s (min (2 * first - 1) (length values)) after
       listed levels s known =

@@ -1,22 +1,27 @@
 -- The values that nodes store: how many, how large, how many on a level; and that a fetch from their levels gives them back.
 use mathlib.Core.Path.{_≡_, refl, sym, ap, _∙_}
 use mathlib.Core.Bool.{Bool, true, false, cond}
-use mathlib.Core.List.{List, [], _++_, append-nil}
+use mathlib.Core.List.{List}
 use Prim.Native.Nat.{ℕ, zero, suc, _+_, _-_, _*_, _/_, _%_, _^_, _≤_, _<_, min}
+use native.Mathlib.Nat.{le-refl, pow-succ'}
 use native.Mathlib.Decide.{decLt}
 use native.Mathlib.Omega.{arith}
 use lib.ListN.{length, drop, getD, length-take, length-drop, List·getD-eq-default}
 use lib.Dec.{eqb, ltb}
 use lib.Seq.{getD-take, getD-drop}
-use lib.Pow.{pow-pos}
-use Rattle.codes.specs.Codes.{part, Within}
-use Rattle.codes.specs.Fetch.{fetched, value}
-use Rattle.codes.proofs.Promises.{round-trip}
+use lib.Pow.{pow-pos, pow-mono}
+use Rattle.codes.specs.Codes.{Within}
+use Rattle.codes.specs.Fetch.{value}
+use Rattle.codes.specs.Decode.{all, decoded}
+use Rattle.codes.proofs.Promises.{decode-fetches, decode-back}
 use Rattle.tree.specs.declared.nodes.Levels.{Levels}
 use Rattle.tree.specs.Shape.{height, rank}
 use Rattle.tree.specs.Stored.{timeOf, timeAbove, difference, stored, storedFrom, storedValues}
 use Rattle.tree.specs.Levels.{firstOf, countOf, codeOf, partOf, levelValues, fetchedAt, Stores}
-use Rattle.tree.proofs.Heights.{digits, height-mono}
+use Rattle.tree.specs.DecodedLevels.{decodedAt}
+use Rattle.tree.specs.Merged.{KnownValues}
+use Rattle.tree.proofs.Heights.{digits, height-mono, height-above, level-starts}
+use Rattle.tree.proofs.NodeFetches.{count-is}
 
 length-from : (xs : List ℕ) (k v : ℕ) → length (storedFrom xs k v) ≡ k
 unfolding storedFrom
@@ -56,68 +61,75 @@ stored-within w xs h j = elim (decLt j (length xs)) [
   | no n ↦ rw (List·getD-eq-default (storedValues xs) 0 {n = j} (rw (length-stored xs) (omega arith))) (pow-pos w)
 ]
 
+-- ---- a level's
+
+pub level-at : (values : List ℕ) (l j : ℕ) → j < countOf (length values) l → getD (levelValues values l) j 0 ≡ getD values (firstOf l - 1 + j) 0
+level-at values l j h = getD-take (countOf (length values) l) (drop (firstOf l - 1) values) j 0 h ∙ getD-drop (firstOf l - 1) values j 0
+
+level-few : (values : List ℕ) (l : ℕ) → length (levelValues values l) ≤ countOf (length values) l
+level-few values l = rw length-take (omega arith)
+
 pub level-within : (w : ℕ) (values : List ℕ) (l : ℕ) → Within w values → Within w (levelValues values l)
 level-within w values l h i = elim (decLt i (countOf (length values) l)) [
-  | yes k ↦ rw (getD-take (countOf (length values) l) (drop (firstOf l - 1) values) i 0 k, getD-drop (firstOf l - 1) values i 0) (h (firstOf l - 1 + i))
-  | no n ↦
-      rw (List·getD-eq-default (levelValues values l) 0 {n = i} (rw (length-take (countOf (length values) l) (drop (firstOf l - 1) values)) (omega arith))) (pow-pos w)
+  | yes k ↦ rw (level-at values l i k) (h (firstOf l - 1 + i))
+  | no n ↦ rw (List·getD-eq-default (levelValues values l) 0 {n = i} (omega (arith, level-few values l))) (pow-pos w)
 ]
 
 pub level-half : (values : List ℕ) (l : ℕ) → 2 * length (levelValues values l) ≤ length values + 1
-level-half values zero = rw (length-take (countOf (length values) 0) (drop (firstOf 0 - 1) values)) (omega arith)
-level-half values (suc d) =
-    let e : suc d - 1 ≡ d = omega arith in
-    rw (length-take (countOf (length values) (suc d)) (drop (firstOf (suc d) - 1) values), length-drop (firstOf (suc d) - 1) values, e) (omega (arith, pow-pos d))
+level-half values zero = omega (arith, level-few values 0)
+level-half values (suc d) = omega (arith, level-few values (suc d), count-is (length values) d)
 
 pub level-above : (values : List ℕ) (d : ℕ) → min (length values) (2 ^ d - 1) + length (levelValues values (suc d)) ≤ min (length values) (2 ^ suc d - 1)
 level-above values d =
-    let e : suc d - 1 ≡ d = omega arith in
-    let p : 2 ^ suc d ≡ 2 * 2 ^ d = omega arith in
-    rw (length-take (countOf (length values) (suc d)) (drop (firstOf (suc d) - 1) values), e, p)
-    (go (length values) (2 ^ d) (length (drop (2 ^ d - 1) values)) (decLt (length values) (2 ^ d)) (pow-pos d))
+    go (length values) (2 ^ d) (2 ^ suc d) (length (levelValues values (suc d))) (pow-pos d) (pow-succ' 2 d) (omega (arith, level-few values (suc d), count-is (length values) d))
   where
-    go : (n p m : ℕ) → Dec (n < p) → 1 ≤ p → min n (p - 1) + min (suc (min n (2 * p - 1)) - p) m ≤ min n (2 * p - 1)
-    go n p m (yes l) h = omega arith
-    go n p m (no l) h = omega arith
+    go : (n p q m : ℕ) → 1 ≤ p → q ≡ 2 * p → m ≤ min (n + 1 - p) p → min n (p - 1) + m ≤ min n (q - 1)
+    go n p q m h e l = omega arith
+
+-- a level among the first k of the tree has all its nodes among theirs, and a value for each
+pub level-inside : (n l k : ℕ) → 1 ≤ l → l ≤ k → k ≤ height n → firstOf l - 1 + countOf n l ≤ min n (2 ^ k - 1)
+level-inside n l k one few high =
+    let lower : l - 1 ≤ l = omega arith in
+    go n (2 ^ (l - 1)) (2 ^ l) (2 ^ k) (level-starts n l one (omega arith)) (pow-pos (l - 1)) (pow-mono lower) (pow-mono few)
+  where
+    go : (n p q r : ℕ) → p ≤ n → 1 ≤ p → p ≤ q → q ≤ r → p - 1 + (suc (min n (q - 1)) - p) ≤ min n (r - 1)
+    go n p q r a b c d = omega arith
+
+pub level-length : (xs : List ℕ) (l : ℕ) → 1 ≤ l → l ≤ height (length xs) → length (levelValues (storedValues xs) l) ≡ countOf (length xs) l
+level-length xs l one few = rw (length-take, length-drop, length-stored xs) (omega (arith, level-inside (length xs) l l one (le-refl l) few))
 
 -- a node stands on its level, and the level in the tree
-record On (n v l : ℕ) : Type 0 where
-  first : 1 ≤ l
-  last : l ≤ height n
-  low : firstOf l ≤ v
-  inside : v - firstOf l < countOf n l
-  fits : firstOf l - 1 + countOf n l ≤ n
-
-on-level : (n v : ℕ) → 1 ≤ v → v ≤ n → On n v (height v)
+on-level : (n v : ℕ) → 1 ≤ v → v ≤ n → let l = height v in (l ≤ height n) × (firstOf l ≤ v) × (v - firstOf l < countOf n l)
 on-level n v h k =
     let d = digits v h in
     let e : suc (d .top) - 1 ≡ d .top = omega arith in
     let m : height v ≤ height n = height-mono v n k in
-    rw (d .is) record {
-      first = omega arith;
-      last = rw (d .is) at m;
-      low = rw e (d .least);
-      inside = rw e (omega (arith, d .least, d .below));
-      fits = rw e (omega (arith, d .least, pow-pos (d .top)));
-    }
+    rw (d .is, e) (rw (d .is) at m, d .least, omega (arith, d .least, d .below))
 
-pub fetched-stored : (at : Levels) (s xs : List ℕ) → Stores at s xs → (v : ℕ) → 1 ≤ v → v ≤ length xs → fetchedAt at s v ≡ value (stored xs v)
+-- where each level is decoded to its values, these are what is fetched for the nodes
+pub known-from : (levels : Levels) (s values : List ℕ) → length values ≡ levels .pins
+    → ((l : ℕ) → 1 ≤ l → l ≤ height (levels .pins) → decodedAt levels s l ≡ all (levelValues values l)) → KnownValues levels s values
 unfolding fetchedAt
-fetched-stored at s xs w v h k =
+known-from levels s values e each v h k =
     let l = height v in
-    let on = on-level (length xs) v h k in
-    let all = storedValues xs in
-    let vs = levelValues all l in
+    let on = on-level (levels .pins) v h (omega arith) in
     let j = v - firstOf l in
-    let len : length vs ≡ countOf (length xs) l = rw (length-take, length-drop, length-stored xs) (omega (arith, on .fits)) in
-    let back = round-trip (codeOf at l) vs [] j (w .holds l (on .first) (on .last)) (rw len (on .inside)) in
-    let i : firstOf l - 1 + j ≡ v - 1 = omega (arith, on .low, pow-pos (l - 1)) in
+    let i : firstOf l - 1 + j ≡ v - 1 = omega (arith, on .1, pow-pos (l - 1)) in
+    decode-fetches (codeOf levels l) (countOf (levels .pins) l) (partOf levels s l) (levelValues values l) (each l (height-above v 0 h) (on .0)) .1 j (on .2)
+    ∙ ap value (level-at values l j (rw e (on .2)) ∙ ap (λ (m : ℕ). getD values m 0) i)
+
+-- ---- levels that hold what a list's tree stores
+
+pub decoded-back : {levels : Levels} {s xs : List ℕ} → Stores levels s xs → (l : ℕ) → 1 ≤ l → l ≤ height (length xs)
+    → decodedAt levels s l ≡ all (levelValues (storedValues xs) l)
+decoded-back {levels} {s} {xs} w l one few =
+    ap (λ (n : ℕ). decoded (codeOf levels l) (countOf n l) (partOf levels s l)) (w .pins-are)
+    ∙ ap (λ (n : ℕ). decoded (codeOf levels l) n (partOf levels s l)) (sym (level-length xs l one few))
+    ∙ ap (decoded (codeOf levels l) (length (levelValues (storedValues xs) l))) (w .parts-are l one few)
+    ∙ decode-back (codeOf levels l) (levelValues (storedValues xs) l) (w .holds l one few)
+
+pub fetched-stored : (levels : Levels) (s xs : List ℕ) → Stores levels s xs → (v : ℕ) → 1 ≤ v → v ≤ length xs → fetchedAt levels s v ≡ value (stored xs v)
+fetched-stored levels s xs w v h k =
     let last : suc (v - 1) ≡ v = omega arith in
-    let own : getD vs j 0 ≡ stored xs v =
-    getD-take (countOf (length all) l) (drop (firstOf l - 1) all) j 0 (rw (length-stored xs) (on .inside)) ∙ getD-drop (firstOf l - 1) all j 0
-    ∙ ap (λ (m : ℕ). getD all m 0) i ∙ getD-stored xs (v - 1) (omega arith) ∙ ap (stored xs) last in
-    ap (λ (n : ℕ). fetched (codeOf at l) (countOf n l) j (partOf at s l)) (w .pins-are)
-    ∙ ap (fetched (codeOf at l) (countOf (length xs) l) j) (w .parts-are l (on .first) (on .last) ∙ sym (append-nil (part (codeOf at l) vs)))
-    ∙ ap (λ (c : ℕ). fetched (codeOf at l) c j (part (codeOf at l) vs ++ [])) (sym len)
-    ∙ back
-    ∙ ap value own
+    known-from levels s (storedValues xs) (length-stored xs ∙ sym (w .pins-are)) (λ l a b. decoded-back w l a (rw (w .pins-are) at b)) v h (rw (length-stored xs) k)
+    ∙ ap value (getD-stored xs (v - 1) (omega arith) ∙ ap (stored xs) last)

@@ -1,52 +1,75 @@
 -- Levels that are what pack writes, one after the other.
 use mathlib.Core.Path.{_≡_, refl, sym, ap, _∙_}
-use mathlib.Core.Bool.{Bool, true, false, _&&_, and-false, and-assoc, false≢true}
+use mathlib.Core.Bool.{Bool, true, false, _&&_, and-false, and-eq-true-iff, false≢true}
 use mathlib.Core.List.{List}
-use Prim.Native.Nat.{ℕ, zero, suc, _+_, _-_, _^_, _<_, min}
-use native.Mathlib.Nat.{zero-add, suc-add}
+use Prim.Native.Nat.{ℕ, zero, suc, _+_, _-_, _≤_, _<_}
 use native.Mathlib.Numerals.{add-one}
+use native.Mathlib.Decide.{ℕ-discrete}
 use native.Mathlib.Omega.{arith}
-use lib.ListN.{take, drop, getD}
-use Rattle.codes.specs.Decode.{Decoded, all, undecoded, decoded, isDecoded}
+use lib.ListN.{length, take, drop, getD}
+use Rattle.codes.specs.Choice.{isChosen}
+use Rattle.codes.specs.Decode.{Decoded, all, undecoded, isDecoded}
+use Rattle.codes.proofs.Promises.{chosen-parts}
 use Rattle.tree.specs.declared.nodes.Levels.{Levels}
-use Rattle.tree.specs.Levels.{partOf}
-use Rattle.tree.specs.Chosen.{chosenBy, levelChosen, chosenTo}
-use Rattle.tree.proofs.NodeFetches.{count-is}
+use Rattle.tree.specs.Shape.{height}
+use Rattle.tree.specs.Stored.{storedValues}
+use Rattle.tree.specs.Levels.{codeOf, partOf, levelValues}
+use Rattle.tree.specs.DecodedLevels.{decodedAt, joined, decodedTo, decodedLevels}
+use Rattle.tree.specs.Chosen.{chosenBy, levelChosen, chosenTo, allChosen}
+use Rattle.tree.specs.Promises.{StoredChosen}
+use Rattle.tree.proofs.LevelValues.{decoded-back}
 
--- the level below d others
-chosen-next : (at : Levels) (s : List ℕ) (d : ℕ) → let code = getD (at .codes) d 0 in let bytes = take (getD (at .ends) (d + 1) 0 - getD (at .ends) d 0) (drop (getD (at .ends) d 0) s) in
-    chosenTo at s (d + 1) ≡ (chosenTo at s d && chosenBy code bytes (decoded code (min (at .pins + 1 - 2 ^ d) (2 ^ d)) bytes))
-unfolding chosenTo partOf
-chosen-next at s d =
-    let e : suc d - 1 ≡ d = omega arith in
-    rw (add-one d, count-is (at .pins) d, e)
+module _ (levels : Levels) (s : List ℕ) where
+  -- the level below d others, by what it is decoded to
+  pub chosen-level : (d : ℕ) (vs : List ℕ) → decodedAt levels s (suc d) ≡ all vs
+      → levelChosen levels s (suc d) ≡ isChosen (getD (levels .codes) d 0) vs (take (getD (levels .ends) (d + 1) 0 - getD (levels .ends) d 0) (drop (getD (levels .ends) d 0) s))
+  unfolding partOf
+  chosen-level d vs e =
+      let p : suc d - 1 ≡ d = omega arith in
+      ap (chosenBy (codeOf levels (suc d)) (partOf levels s (suc d))) e ∙ rw (p, add-one d)
 
--- once a level is another, not all are
-chosen-stays : (at : Levels) (s : List ℕ) (k m : ℕ) → chosenTo at s k ≡ false → chosenTo at s (m + k) ≡ false
-unfolding chosenTo
-chosen-stays at s k zero e = rw (zero-add k) e
-chosen-stays at s k (suc m) e = rw (suc-add m k) (ap (λ (b : Bool). b && levelChosen at s (suc (m + k))) (chosen-stays at s k m e))
+  pub chosen-next : (d : ℕ) → chosenTo levels s d ≡ true → levelChosen levels s (suc d) ≡ true → chosenTo levels s (d + 1) ≡ true
+  unfolding chosenTo
+  chosen-next d e f = rw (add-one d, e) f
 
--- a level that is not decoded is another
-pub undecoded-other : (code : ℕ) (bytes : List ℕ) (x : Decoded) → isDecoded x ≡ false → chosenBy code bytes x ≡ false
-undecoded-other code bytes (all vs) e = absurd (false≢true (sym e))
-undecoded-other code bytes undecoded e = refl
+  -- each of the first k levels
+  pub chosen-each : (k : ℕ) → chosenTo levels s k ≡ true → (l : ℕ) → 1 ≤ l → l ≤ k → levelChosen levels s l ≡ true
+  unfolding chosenTo
+  chosen-each zero e l a b = absurd (omega arith)
+  chosen-each (suc k) e l a b =
+      let both = and-eq-true-iff (chosenTo levels s k) (levelChosen levels s (suc k)) .0 e in
+      elim (ℕ-discrete l (suc k)) [ yes z ↦ rw z (both .1) | no z ↦ chosen-each k (both .0) l a (omega arith) ]
 
--- the level below d others, of so many values, by what it is decoded to
-module _ (at : Levels) (s : List ℕ) (d count : ℕ) (few : count ≡ min (at .pins + 1 - 2 ^ d) (2 ^ d)) where
-  abbrev code : ℕ
-  code = getD (at .codes) d 0
+  chosen-all : (k : ℕ) → ((l : ℕ) → 1 ≤ l → l ≤ k → levelChosen levels s l ≡ true) → chosenTo levels s k ≡ true
+  unfolding chosenTo
+  chosen-all zero each = refl
+  chosen-all (suc k) each = rw (chosen-all k (λ l a b. each l a (omega arith)), each (suc k) (omega arith) (omega arith))
 
-  abbrev bytes : List ℕ
-  bytes = take (getD (at .ends) (d + 1) 0 - getD (at .ends) d 0) (drop (getD (at .ends) d 0) s)
+  -- where a level is another, not all are chosen
+  pub chosen-not : (k m : ℕ) → k < m → levelChosen levels s (suc k) ≡ false → chosenTo levels s m ≡ false
+  chosen-not k m h e = go (chosenTo levels s m) refl
+    where
+      go : (b : Bool) → chosenTo levels s m ≡ b → b ≡ false
+      go false p = refl
+      go true p = absurd (false≢true (sym e ∙ chosen-each m p (suc k) (omega arith) h))
 
-  pub chosen-level : (compare before now : Bool) → before ≡ (compare && chosenTo at s d) → now ≡ (before && chosenBy code bytes (decoded code count bytes))
-      → now ≡ (compare && chosenTo at s (d + 1))
-  chosen-level compare before now b e = e ∙ rw (b, few, chosen-next at s d) (and-assoc compare (chosenTo at s d) _)
+  -- where a level is not decoded, it is another
+  undecoded-to : (k : ℕ) → isDecoded (decodedTo levels s k) ≡ false → chosenTo levels s k ≡ false
+  unfolding decodedTo chosenTo
+  undecoded-to zero e = absurd (false≢true (sym e))
+  undecoded-to (suc k) e = go (decodedTo levels s k) (decodedAt levels s (suc k)) (undecoded-to k) e
+    where
+      go : (x y : Decoded) → (isDecoded x ≡ false → chosenTo levels s k ≡ false) → isDecoded (joined x y) ≡ false
+          → (chosenTo levels s k && chosenBy (codeOf levels (suc k)) (partOf levels s (suc k)) y) ≡ false
+      go (all us) (all vs) h e = absurd (false≢true (sym e))
+      go (all us) undecoded h e = and-false (chosenTo levels s k)
+      go undecoded y h e = ap (λ (b : Bool). b && chosenBy (codeOf levels (suc k)) (partOf levels s (suc k)) y) (h refl)
 
-  -- where it is not decoded the others need not be looked at
-  pub chosen-ends : (k : ℕ) → d < k → isDecoded (decoded code count bytes) ≡ false → chosenTo at s (d + 1) ≡ chosenTo at s k
-  chosen-ends k h e =
-      let none : chosenTo at s (d + 1) ≡ false = chosen-next at s d ∙ rw (undecoded-other code bytes (decoded code (min (at .pins + 1 - 2 ^ d) (2 ^ d)) bytes) (rw few at e)) (and-false (chosenTo at s d)) in
-      let split : k - (d + 1) + (d + 1) ≡ k = omega arith in
-      none ∙ sym (rw split at (chosen-stays at s (d + 1) (k - (d + 1)) none))
+  pub undecoded-other : isDecoded (decodedLevels levels s) ≡ false → allChosen levels s ≡ false
+  undecoded-other e = undecoded-to (height (levels .pins)) e
+
+-- levels that hold what a list's tree stores, in the chosen codes
+pub codes-chosen : StoredChosen
+codes-chosen levels s xs w codes = chosen-all levels s (height (levels .pins)) (λ l one b.
+    let few : l ≤ height (length xs) = rw (w .pins-are) at b in
+    ap (chosenBy (codeOf levels l) (partOf levels s l)) (decoded-back w l one few) ∙ rw (w .parts-are l one few, codes l one few) (chosen-parts .back (levelValues (storedValues xs) l)))

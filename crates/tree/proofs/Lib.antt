@@ -1,5 +1,4 @@
 -- Laws that the proofs of the functions cite, each file about what its first line says; Promises proves what specs/Promises states.
-pub mod AllTimes
 pub mod AllValues
 pub mod Buffers
 pub mod Contents

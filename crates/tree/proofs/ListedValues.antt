@@ -1,15 +1,15 @@
 -- Where every position has a time, the nodes have the times of that list at their ranks, and what is fetched for them is what the
 -- list's tree stores.
-use mathlib.Core.Path.{_≡_, refl, sym, ap, subst, _∙_}
-use mathlib.Core.Bool.{true, false, cond, and-eq-true-iff, false≢true}
+use mathlib.Core.Path.{_≡_, refl, sym, ap, _∙_}
+use mathlib.Core.Bool.{true, cond, false≢true}
 use mathlib.Core.List.{List, [], _∷_}
 use Prim.Native.Nat.{ℕ, zero, suc, _+_, _-_, _/_, _%_, _^_, _≤_, _<_}
-use native.Mathlib.Nat.{zero-add, add-zero}
+use native.Mathlib.Nat.{zero-add, add-zero, le-refl}
 use native.Mathlib.Decide.{decLt, ℕ-discrete}
 use native.Mathlib.Omega.{arith}
 use lib.Dec.{ltb}
-use lib.ListN.{length, drop, getD, length-take, length-drop}
-use lib.Seq.{ext-getD, getD-take, getD-drop}
+use lib.ListN.{length, getD}
+use lib.Seq.{ext-getD}
 use lib.Pow.{pow-pos}
 use borrow.Author.Tests.{lt-ltb, le-ltb, eq-eqb, ne-eqb}
 use Rattle.codes.specs.Codes.{part}
@@ -23,17 +23,19 @@ use Rattle.tree.specs.Stored.{timeOf, timeAbove, difference, stored, sto
 use Rattle.tree.specs.Levels.{firstOf, countOf, codeOf, partOf, levelValues, fetchedAt}
 use Rattle.tree.specs.Times.{Time, at, refused, under, known, timesIn}
 use Rattle.tree.specs.Walks.{Answer, found, stopped, unless, met, toward, lastOf, accessAnswer}
-use Rattle.tree.specs.Listing.{nowhere, accesses, timeThen, timesFrom, stopOr, stopFrom}
-use Rattle.tree.specs.Chosen.{chosenBy, decodedAt, levelChosen, chosenTo}
+use Rattle.tree.specs.Listing.{nowhere, accesses, timeThen, timesFrom, stopOr, stopFrom, timesAll, stopAll}
+use Rattle.tree.specs.DecodedLevels.{decodedAt}
+use Rattle.tree.specs.Chosen.{chosenBy, levelChosen}
 use Rattle.tree.specs.Promises.{ChosenStored}
-use Rattle.tree.proofs.Heights.{height-is, height-above, level-starts}
-use Rattle.tree.proofs.NodeTimes.{time-above, time-step}
+use Rattle.tree.proofs.Heights.{height-is, height-above}
+use Rattle.tree.proofs.NodeTimes.{time-step}
 use Rattle.tree.proofs.Ranks.{rank-lt}
-use Rattle.tree.proofs.Walks.{Found, met-found}
+use Rattle.tree.proofs.Walks.{met-told}
 use Rattle.tree.proofs.Listings.{times-end}
 use Rattle.tree.proofs.Paths.{toward-rank, last-fromRoot, fromRoot-length}
-use Rattle.tree.proofs.Contents.{above-root, above-child}
-use Rattle.tree.proofs.LevelValues.{length-stored, getD-stored}
+use Rattle.tree.proofs.Contents.{above-at}
+use Rattle.tree.proofs.LevelValues.{length-stored, getD-stored, level-at, level-inside, level-length}
+use Rattle.tree.proofs.LevelsChosen.{chosen-each}
 
 -- ---- what access finds at each position
 
@@ -72,9 +74,9 @@ met-last time d x k t m (v ∷ w ∷ vs) h e = go (time v) e (met-last time v x 
 
 -- ---- the nodes
 
-module _ (levels : Levels) (s : List ℕ) (whole : nowhere ≡ stopFrom (accesses levels s) (levels .pins) 0) where
+module _ (levels : Levels) (s : List ℕ) (whole : nowhere ≡ stopAll levels s) where
   abbrev list : List ℕ
-  list = timesFrom (accesses levels s) (levels .pins) 0
+  list = timesAll levels s
 
   list-length : length list ≡ levels .pins
   list-length = rw (zero-add (length list)) at (times-end (accesses levels s) (levels .pins) 0) ∙ rw (← whole) (zero-add (levels .pins))
@@ -90,8 +92,7 @@ module _ (levels : Levels) (s : List ℕ) (whole : nowhere ≡ stopFrom (accesse
       let e : accessAnswer n time i ≡ found (getD list i 0) (f .nodes) = rw (zero-add i) at (f .is) in
       let some : 1 ≤ length (toward n i) = rw (toward-rank n v h k, fromRoot-length v) (height-above v 0 h) in
       let own = rw last at (met-last time 0 (known (time (lastOf 0 (toward n i)))) (length (toward n i)) (getD list i 0) (f .nodes) (toward n i) some e) in
-      let same : getD list i 0 ≡ known (time v) =
-      subst (Found (λ x m. x ≡ known (time v))) e (met-found (λ x m. x ≡ known (time v)) time (known (time (lastOf 0 (toward n i)))) (length (toward n i)) (ap (λ (u : ℕ). known (time u)) last) (toward n i)) in
+      let same : getD list i 0 ≡ known (time v) = rw last at (met-told time (toward n i) e .0) in
       rw list-length (own ∙ ap at (sym same))
 
   -- what is fetched for a node follows from its time and its parent's
@@ -110,16 +111,10 @@ module _ (levels : Levels) (s : List ℕ) (whole : nowhere ≡ stopFrom (accesse
       odd (yes h) f = let g : at (p + d) ≡ at t = rw (lt-ltb (p + d) (2 ^ 32) h) at f in let t-is : p + d ≡ t = ap known g in ap value (omega arith)
       odd (no h) f = let g : refused 10 v ≡ at t = rw (le-ltb (p + d) (2 ^ 32) (omega arith)) at f in absurd (let z : _≡_ {A = ℕ} 0 1 = cc in omega arith)
 
-  above-time : (v : ℕ) → 1 ≤ v → v ≤ levels .pins → timesIn levels s (v / 2) ≡ at (timeAbove list v)
-  above-time v h k = elim (decLt v 2) [
-    | yes l ↦ let e : v / 2 ≡ 0 = omega arith in rw (e, above-root list v l) (time-above (fetchedAt levels s))
-    | no l ↦ rw (above-child list v (omega arith)) (node-time (v / 2) (omega arith) (omega arith))
-  ]
-
   listed-value : (v : ℕ) → 1 ≤ v → v ≤ levels .pins → fetchedAt levels s v ≡ value (stored list v)
   unfolding stored
   listed-value v h k =
-      node-value v (timeAbove list v) (timeOf list v) (fetchedAt levels s v) (rw (above-time v h k) at (sym (time-step (fetchedAt levels s) v h)) ∙ node-time v h k)
+      node-value v (timeAbove list v) (timeOf list v) (fetchedAt levels s v) (rw (above-at list (fetchedAt levels s) v h (λ d. node-time (v / 2) d (omega arith))) at (sym (time-step (fetchedAt levels s) v h)) ∙ node-time v h k)
 
   -- ---- the levels
 
@@ -128,10 +123,10 @@ module _ (levels : Levels) (s : List ℕ) (whole : nowhere ≡ stopFrom (accesse
     stores = levelValues (storedValues list) l
 
     count-in : firstOf l - 1 + countOf (levels .pins) l ≤ levels .pins
-    count-in = omega (arith, level-starts (levels .pins) l one few, pow-pos (l - 1))
+    count-in = omega (arith, level-inside (levels .pins) l l one (le-refl l) few)
 
     stores-length : length stores ≡ countOf (levels .pins) l
-    stores-length = rw (length-take, length-drop, length-stored list, list-length) (omega (arith, count-in))
+    stores-length = level-length list l one (rw list-length few) ∙ ap (λ (n : ℕ). countOf n l) list-length
 
     -- what a level is decoded to
     level-values : (vs : List ℕ) → decodedAt levels s l ≡ all vs → vs ≡ stores
@@ -147,8 +142,7 @@ module _ (levels : Levels) (s : List ℕ) (whole : nowhere ≡ stopFrom (accesse
         let f : fetchedAt levels s v ≡ value (getD vs j 0) = rw (lv, p) (d .1 j k) in
         let g : getD vs j 0 ≡ stored list v = values-same (sym f ∙ listed-value v (omega (arith, pow-pos (l - 1))) (omega (arith, count-in, pow-pos (l - 1)))) in
         let k′ : j < countOf (length (storedValues list)) l = rw (length-stored list ∙ list-length) k in
-        g ∙ sym (getD-take (countOf (length (storedValues list)) l) (drop (firstOf l - 1) (storedValues list)) j 0 k′ ∙ getD-drop (firstOf l - 1) (storedValues list) j 0
-        ∙ getD-stored list (firstOf l - 1 + j) (rw list-length (omega (arith, count-in))) ∙ ap (stored list) q))
+        g ∙ sym (level-at (storedValues list) l j k′ ∙ getD-stored list (firstOf l - 1 + j) (rw list-length (omega (arith, count-in))) ∙ ap (stored list) q))
       where
         values-same : {a b : ℕ} → value a ≡ value b → a ≡ b
         values-same e = cc
@@ -163,14 +157,6 @@ module _ (levels : Levels) (s : List ℕ) (whole : nowhere ≡ stopFrom (accesse
             → (chosen stores .code ≡ codeOf levels l) × (part (codeOf levels l) stores ≡ partOf levels s l)
         go (all vs) p q = rw (← (level-values vs p)) (chosen-parts .told (codeOf levels l) vs (partOf levels s l) q)
         go undecoded p q = absurd (false≢true q)
-
--- each of the first k levels
-chosen-each : (levels : Levels) (s : List ℕ) (k : ℕ) → chosenTo levels s k ≡ true → (l : ℕ) → 1 ≤ l → l ≤ k → levelChosen levels s l ≡ true
-unfolding chosenTo
-chosen-each levels s zero e l a b = absurd (omega arith)
-chosen-each levels s (suc k) e l a b =
-    let both = and-eq-true-iff (chosenTo levels s k) (levelChosen levels s (suc k)) .0 e in
-    elim (ℕ-discrete l (suc k)) [ yes z ↦ rw z (both .1) | no z ↦ chosen-each levels s k (both .0) l a (omega arith) ]
 
 pub listed-chosen : ChosenStored
 listed-chosen levels s e whole l one few = chosen-values levels s whole l one few (chosen-each levels s (height (levels .pins)) e l one few)

@@ -13,7 +13,7 @@ use Rattle.tree.specs.Stored.{timeOf}
 use Rattle.tree.specs.Times.{at, refused, timesIn}
 use Rattle.tree.specs.Walks.{Answer, found, stopped, toward, accessAnswer}
 use Rattle.tree.specs.Buffers.{replaced}
-use Rattle.tree.specs.Listing.{Stop, nowhere, at as stop-at, accesses, timeThen, timesFrom, stopOr, stopFrom, endOf}
+use Rattle.tree.specs.Listing.{Stop, nowhere, at as stop-at, accesses, timeThen, timesFrom, stopOr, stopFrom, endOf, timesAll, stopAll}
 use Rattle.tree.specs.Standing.{Stands, Reaches}
 use Rattle.tree.specs.Merged.{KnownRanks}
 use Rattle.tree.proofs.Buffers.{replaced-around}
@@ -44,48 +44,31 @@ module _ (answer : ℕ → Answer) where
       go (stopped r c) ts z e = omega arith
 
   -- two stretches one after the other
-  stop-both : (a b i : ℕ) → stopFrom answer (b + a) i ≡ orLater (stopFrom answer a i) (stopFrom answer b (i + a))
-  unfolding stopFrom
-  stop-both zero b i = rw (add-zero b, add-zero i)
-  stop-both (suc a) b i =
-      let e : suc i + a ≡ i + suc a = omega arith in
-      rw (add-suc b a) (go (answer i) (stopFrom answer (b + a) (suc i)) (stopFrom answer a (suc i)) (rw e at (stop-both a b (suc i))))
-    where
-      go : (x : Answer) (all first : Stop) → all ≡ orLater first (stopFrom answer b (i + suc a)) → stopOr i x all ≡ orLater (stopOr i x first) (stopFrom answer b (i + suc a))
-      go (found t j) all first e = e
-      go (stopped r c) all first e = refl
-
-  times-both : (a b i : ℕ) → timesFrom answer (b + a) i ≡ timesFrom answer a i ++ unlessAt (stopFrom answer a i) (timesFrom answer b (i + a))
+  listed-both : (a b i : ℕ) → (stopFrom answer (b + a) i ≡ orLater (stopFrom answer a i) (stopFrom answer b (i + a)))
+      × (timesFrom answer (b + a) i ≡ timesFrom answer a i ++ unlessAt (stopFrom answer a i) (timesFrom answer b (i + a)))
   unfolding timesFrom stopFrom
-  times-both zero b i = rw (add-zero b, add-zero i)
-  times-both (suc a) b i =
+  listed-both zero b i = rw (add-zero b, add-zero i) (refl, refl)
+  listed-both (suc a) b i =
       let e : suc i + a ≡ i + suc a = omega arith in
-      rw (add-suc b a) (go (answer i) (timesFrom answer (b + a) (suc i)) (timesFrom answer a (suc i)) (stopFrom answer a (suc i)) (rw e at (times-both a b (suc i))))
+      rw (add-suc b a) (go (answer i) _ (stopFrom answer a (suc i)) _ (timesFrom answer a (suc i)) (rw e at (listed-both a b (suc i))))
     where
-      go : (x : Answer) (all first : List ℕ) (z : Stop) → all ≡ first ++ unlessAt z (timesFrom answer b (i + suc a))
-          → timeThen x all ≡ timeThen x first ++ unlessAt (stopOr i x z) (timesFrom answer b (i + suc a))
-      go (found t j) all first z e = ap (λ (l : List ℕ). t ∷ l) e
-      go (stopped r c) all first z e = refl
+      go : (x : Answer) (z first : Stop) (all ts : List ℕ)
+          → (z ≡ orLater first (stopFrom answer b (i + suc a))) × (all ≡ ts ++ unlessAt first (timesFrom answer b (i + suc a)))
+          → (stopOr i x z ≡ orLater (stopOr i x first) (stopFrom answer b (i + suc a))) × (timeThen x all ≡ timeThen x ts ++ unlessAt (stopOr i x first) (timesFrom answer b (i + suc a)))
+      go (found t j) z first all ts e = (e .0, ap (λ (l : List ℕ). t ∷ l) (e .1))
+      go (stopped r c) z first all ts e = (refl, refl)
 
   -- a position between them that has a time
-  stop-around : (a b i x k : ℕ) → answer (i + a) ≡ found x k → stopFrom answer (suc b + a) i ≡ orLater (stopFrom answer a i) (stopFrom answer b (suc (i + a)))
-  unfolding stopFrom
-  stop-around a b i x k e = stop-both a (suc b) i ∙ ap (λ (y : Answer). orLater (stopFrom answer a i) (stopOr (i + a) y (stopFrom answer b (suc (i + a))))) e
+  listed-around : (a b i x k : ℕ) → answer (i + a) ≡ found x k → (stopFrom answer (suc b + a) i ≡ orLater (stopFrom answer a i) (stopFrom answer b (suc (i + a))))
+      × (timesFrom answer (suc b + a) i ≡ timesFrom answer a i ++ unlessAt (stopFrom answer a i) (x ∷ timesFrom answer b (suc (i + a))))
+  unfolding timesFrom stopFrom
+  listed-around a b i x k e = rw e at (listed-both a (suc b) i)
 
-  times-around : (a b i x k : ℕ) → answer (i + a) ≡ found x k
-      → timesFrom answer (suc b + a) i ≡ timesFrom answer a i ++ unlessAt (stopFrom answer a i) (x ∷ timesFrom answer b (suc (i + a)))
-  unfolding timesFrom
-  times-around a b i x k e = times-both a (suc b) i ∙ ap (λ (y : Answer). timesFrom answer a i ++ unlessAt (stopFrom answer a i) (timeThen y (timesFrom answer b (suc (i + a))))) e
-
-  stop-here : (k i r c : ℕ) → 1 ≤ k → answer i ≡ stopped r c → stopFrom answer k i ≡ stop-at i r c
-  unfolding stopFrom
-  stop-here zero i r c h e = absurd (omega arith)
-  stop-here (suc k) i r c h e = ap (λ (y : Answer). stopOr i y (stopFrom answer k (suc i))) e
-
-  times-here : (k i r c : ℕ) → 1 ≤ k → answer i ≡ stopped r c → timesFrom answer k i ≡ []
-  unfolding timesFrom
-  times-here zero i r c h e = absurd (omega arith)
-  times-here (suc k) i r c h e = ap (λ (y : Answer). timeThen y (timesFrom answer k (suc i))) e
+  -- a refusal at the first position
+  listed-here : (k i r c : ℕ) → 1 ≤ k → answer i ≡ stopped r c → (stopFrom answer k i ≡ stop-at i r c) × (timesFrom answer k i ≡ [])
+  unfolding timesFrom stopFrom
+  listed-here zero i r c h e = absurd (omega arith)
+  listed-here (suc k) i r c h e = rw e (refl, refl)
 
   -- where access finds the times of a list
   times-found : (xs : List ℕ) (i : ℕ) (nodes : ℕ → ℕ) → ((j : ℕ) → j < length xs → answer (i + j) ≡ found (getD xs j 0) (nodes j))
@@ -99,7 +82,7 @@ module _ (answer : ℕ → Answer) where
 
 -- where every node of the list's tree has its time
 pub times-known : (levels : Levels) (s xs : List ℕ) → levels .pins ≡ length xs → ((v : ℕ) → 1 ≤ v → v ≤ length xs → timesIn levels s v ≡ at (timeOf xs v))
-    → (timesFrom (accesses levels s) (levels .pins) 0 ≡ xs) × (stopFrom (accesses levels s) (levels .pins) 0 ≡ nowhere)
+    → (timesAll levels s ≡ xs) × (stopAll levels s ≡ nowhere)
 times-known levels s xs pins fine =
     subst (λ (k : ℕ). (timesFrom (accesses levels s) k 0 ≡ xs) × (stopFrom (accesses levels s) k 0 ≡ nowhere)) (sym pins)
     (times-found (accesses levels s) xs 0 (λ j. length (toward (length xs) j)) (λ j h.
@@ -107,7 +90,7 @@ times-known levels s xs pins fine =
 
 -- where they stand at their ranks
 pub ranks-known : (levels : Levels) (s list : List ℕ) → levels .pins ≡ length list → KnownRanks levels s (levels .pins) list
-    → (timesFrom (accesses levels s) (levels .pins) 0 ≡ list) × (stopFrom (accesses levels s) (levels .pins) 0 ≡ nowhere)
+    → (timesAll levels s ≡ list) × (stopAll levels s ≡ nowhere)
 unfolding timeOf
 ranks-known levels s list pins known = times-known levels s list pins (λ v a b. rw (← pins) (known v a (rw pins b)))
 
@@ -121,9 +104,8 @@ module _ {levels : Levels} {s : List ℕ} {v depth start pins above : ℕ}
   pub listed-refused : (r u : ℕ) → timesIn levels s v ≡ refused r u
       → (stopFrom (accesses levels s) pins start ≡ stop-at start r u) × (timesFrom (accesses levels s) pins start ≡ [])
   listed-refused r u e =
-      let z : accesses levels s start ≡ stopped r u =
-      sym (reach start (omega arith) (omega arith)) ∙ access-refused (levels .pins) (timesIn levels s) start depth v r u (w .one) node e in
-      (stop-here (accesses levels s) pins start r u some z, times-here (accesses levels s) pins start r u some z)
+      listed-here (accesses levels s) pins start r u some
+      (sym (reach start (omega arith) (omega arith)) ∙ access-refused (levels .pins) (timesIn levels s) start depth v r u (w .one) node e)
 
   module _ (x : ℕ) (e : timesIn levels s v ≡ at x) (place : ℕ) (p : place ≡ rootPlace pins) where
     place-is : (1 ≤ place) × (place ≤ pins)
@@ -165,29 +147,30 @@ module _ {levels : Levels} {s : List ℕ} {v depth start pins above : ℕ}
           ∙ access-end (levels .pins) (timesIn levels s) (start + (place - 1)) depth v x (w .one) node e rank-is
 
       stop-is : stopFrom (accesses levels s) pins start ≡ orLater (stopFrom (accesses levels s) (place - 1) start) (stopFrom (accesses levels s) (pins - place) (start + place))
-      stop-is = rw (split, next) at (stop-around (accesses levels s) (place - 1) (pins - place) start x (depth + 1) time-here)
+      stop-is = rw (split, next) at (listed-around (accesses levels s) (place - 1) (pins - place) start x (depth + 1) time-here .0)
 
       times-are : timesFrom (accesses levels s) pins start
           ≡ timesFrom (accesses levels s) (place - 1) start ++ unlessAt (stopFrom (accesses levels s) (place - 1) start) (x ∷ timesFrom (accesses levels s) (pins - place) (start + place))
-      times-are = rw (split, next) at (times-around (accesses levels s) (place - 1) (pins - place) start x (depth + 1) time-here)
+      times-are = rw (split, next) at (listed-around (accesses levels s) (place - 1) (pins - place) start x (depth + 1) time-here .1)
 
       -- the left side ends the listing
       pub listed-left : (z : Stop) (i r c : ℕ) → z ≡ stop-at i r c → z ≡ stopFrom (accesses levels s) (place - 1) start
-          → (z ≡ stopFrom (accesses levels s) pins start) × (left ≡ replaced before start (timesFrom (accesses levels s) pins start))
+          → (stop-at i r c ≡ stopFrom (accesses levels s) pins start) × (left ≡ replaced before start (timesFrom (accesses levels s) pins start))
       listed-left z i r c a b =
           let q : stopFrom (accesses levels s) (place - 1) start ≡ stop-at i r c = sym b ∙ a in (
-            a ∙ sym (stop-is ∙ ap (λ (y : Stop). orLater y (stopFrom (accesses levels s) (pins - place) (start + place))) q),
+            sym (stop-is ∙ ap (λ (y : Stop). orLater y (stopFrom (accesses levels s) (pins - place) (start + place))) q),
             done ∙ ap (replaced before start) (sym (times-are
                 ∙ ap (λ (y : Stop). timesFrom (accesses levels s) (place - 1) start ++ unlessAt y (x ∷ timesFrom (accesses levels s) (pins - place) (start + place))) q
                 ∙ append-nil (timesFrom (accesses levels s) (place - 1) start))),
           )
 
       -- the right side ends it, or nothing does
-      pub listed-right : nowhere ≡ stopFrom (accesses levels s) (place - 1) start → start + pins ≤ length before → (z : Stop) (after : List ℕ)
+      pub listed-right : {y : Stop} → y ≡ nowhere → y ≡ stopFrom (accesses levels s) (place - 1) start → start + pins ≤ length before → (z : Stop) (after : List ℕ)
           → z ≡ stopFrom (accesses levels s) (pins - place) (start + place)
           → after ≡ replaced (set left (start + place - 1) x) (start + place) (timesFrom (accesses levels s) (pins - place) (start + place))
           → (z ≡ stopFrom (accesses levels s) pins start) × (after ≡ replaced before start (timesFrom (accesses levels s) pins start))
-      listed-right q room z after a b =
+      listed-right none same room z after a b =
+          let q = sym none ∙ same in
           let k : start + (place - 1) ≡ endOf (stopFrom (accesses levels s) (place - 1) start) (start + (place - 1)) = ap (λ (y : Stop). endOf y (start + (place - 1))) q in
           let l : start + length (timesFrom (accesses levels s) (place - 1) start) ≡ start + place - 1 =
           times-end (accesses levels s) (place - 1) start ∙ sym k ∙ omega (arith, place-is) in

@@ -7,7 +7,7 @@ use native.Mathlib.Numerals.{add-one}
 use native.Mathlib.Omega.{arith}
 use lib.ListN.{length, take, drop, getD}
 use lib.Pow.{pow-pos, pow-mono}
-use Rattle.codes.specs.Fetch.{fetched}
+use Rattle.codes.specs.Fetch.{Fetched, fetched}
 use Rattle.tree.specs.declared.nodes.Levels.{Levels}
 use Rattle.tree.specs.Levels.{countOf, partOf, fetchedAt, Fits}
 use Rattle.tree.proofs.Heights.{height-is, height-above, height-bound}
@@ -18,13 +18,29 @@ count-is n d =
     let e : suc d - 1 ≡ d = omega arith in
     rw (e, pow-succ' 2 d) (omega (arith, pow-pos d))
 
-pub fetched-at : (at : Levels) (s : List ℕ) (d v : ℕ) → 2 ^ d ≤ v → v < 2 * 2 ^ d
-    → fetchedAt at s v ≡ fetched (getD (at .codes) d 0) (min (at .pins + 1 - 2 ^ d) (2 ^ d)) (v - 2 ^ d)
+-- from node `first` to node `last`
+pub count-between : (n d first last : ℕ) → first ≡ 2 ^ d → last ≡ min n (2 * first - 1) → last - (first - 1) ≡ countOf n (suc d)
+count-between n d first last e l =
+    let p : suc d - 1 ≡ d = omega arith in
+    rw (l, e, p, pow-succ' 2 d) (less (min n (2 * 2 ^ d - 1)) (2 ^ d) (pow-pos d))
+  where
+    less : (m p : ℕ) → 1 ≤ p → m - (p - 1) ≡ suc m - p
+    less m p h = omega arith
+
+-- from the level below d others, which begins with node `first`
+abbrev pub fetchIn : Levels → List ℕ → ℕ → ℕ → ℕ → Fetched
+fetchIn at s d v first =
+    fetched (getD (at .codes) d 0) (min (at .pins + 1 - first) first) (v - first)
     (take (getD (at .ends) (d + 1) 0 - getD (at .ends) d 0) (drop (getD (at .ends) d 0) s))
+
+fetched-at : (at : Levels) (s : List ℕ) (d v : ℕ) → 2 ^ d ≤ v → v < 2 * 2 ^ d → fetchedAt at s v ≡ fetchIn at s d v (2 ^ d)
 unfolding fetchedAt partOf
 fetched-at at s d v lo hi =
     let e : suc d - 1 ≡ d = omega arith in
     rw (height-is d v lo (omega arith), count-is (at .pins) d, e, add-one d)
+
+pub fetched-from : (at : Levels) (s : List ℕ) (d v first : ℕ) → first ≡ 2 ^ d → 2 ^ d ≤ v → v < 2 * 2 ^ d → fetchedAt at s v ≡ fetchIn at s d v first
+fetched-from at s d v first e lo hi = rw e (fetched-at at s d v lo hi)
 
 -- a level that has a node lies in the bytes
 pub record Level (at : Levels) (s : List ℕ) (d : ℕ) : Type 0 where

@@ -4,7 +4,7 @@ use Prim.Native.Nat.{ℕ, _+_, _-_, _/_, _%_, _^_, _≤_, _<_}
 use native.Mathlib.Omega.{arith}
 use borrow.Author.Tests.{lt-ltb, le-ltb, eq-eqb, ne-eqb}
 use Rattle.codes.specs.Fetch.{Fetched, value}
-use Rattle.tree.specs.Times.{at, under, nodeTimeIn, nodeTime}
+use Rattle.tree.specs.Times.{at, under, timeTold, nodeTimeIn, nodeTime}
 use Rattle.tree.proofs.Heights.{height-zero, height-step}
 
 -- above the root
@@ -22,3 +22,7 @@ time-left v p d e h = rw (eq-eqb (v % 2) 0 e, le-ltb p d h)
 
 pub time-right : (v p d : ℕ) → v % 2 ≡ 1 → p + d < 2 ^ 32 → at (p + d) ≡ under v (at p) (value d)
 time-right v p d e h = rw (ne-eqb (v % 2) 0 (λ z. omega arith), lt-ltb (p + d) (2 ^ 32) h)
+
+-- what is told below 2 ^ 32 is the time
+pub told-time : (v told : ℕ) → told < 2 ^ 32 → timeTold v told ≡ at told
+told-time v told h = rw (lt-ltb told 4294967296 h)

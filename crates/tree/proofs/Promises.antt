@@ -1,5 +1,5 @@
 -- The promises of specs/Promises.
-use mathlib.Core.Path.{_≡_, refl, sym, ap, subst, _∙_}
+use mathlib.Core.Path.{_≡_, sym, ap, _∙_}
 use mathlib.Core.List.{List}
 use Prim.Native.Nat.{ℕ, zero, suc, _-_, _^_, _≤_, min}
 use native.Mathlib.Nat.{le-refl, zero-add}
@@ -11,22 +11,23 @@ use Rattle.tree.specs.declared.nodes.Levels.{Levels}
 use Rattle.tree.specs.Shape.{rank}
 use Rattle.tree.specs.Stored.{timeOf}
 use Rattle.tree.specs.Levels.{firstOf, levelOf, fetchedAt}
-use Rattle.tree.specs.Times.{at, timesIn, known}
-use Rattle.tree.specs.Listing.{nowhere, accesses, timesFrom, stopFrom}
-use Rattle.tree.specs.Walks.{toward, lastOf, accessAnswer, searchNodes, searchAnswer}
+use Rattle.tree.specs.Times.{at, timesIn}
+use Rattle.tree.specs.Listing.{nowhere, timesFrom, timesAll, stopAll}
+use Rattle.tree.specs.Walks.{toward, accessAnswer, searchNodes, searchAnswer}
 use Rattle.tree.specs.Sweeps.{sweep}
-use Rattle.tree.specs.Promises.{HeightLeast, Shape, Held, Contents, SearchFinds, AccessOpens, StoredLevels, ListingFinds, SweepFinds, ChosenStored}
+use Rattle.tree.specs.Promises.{HeightLeast, Shape, Held, Contents, SearchFinds, AccessOpens, StoredLevels, ListingFinds, SweepFinds, ChosenStored, StoredChosen}
 use Rattle.tree.proofs.Heights.{digits, height-bound, height-le, height-is}
 use Rattle.tree.proofs.Stretches.{stretch-root, stretch-left, stretch-right, node-iff}
 use Rattle.tree.proofs.Inorder.{tree}
 use Rattle.tree.proofs.Ranks.{rank-lt, rank-found}
-use Rattle.tree.proofs.Walks.{walk-length, toward-on, Found, met-found}
+use Rattle.tree.proofs.Walks.{walk-length, toward-on, met-told}
 use Rattle.tree.proofs.Paths.{toward-rank, rank-once, fromRoot-length, access-answer, search-path, search-answer}
 use Rattle.tree.proofs.Sweeps.{sweep-answer, different-pins, different-heights}
 use Rattle.tree.proofs.Contents.{times-back}
 use Rattle.tree.proofs.Listings.{times-end, times-known}
 use Rattle.tree.proofs.TimeBounds.{times-within}
 use Rattle.tree.proofs.ListedValues.{listed-chosen}
+use Rattle.tree.proofs.LevelsChosen.{codes-chosen}
 use Rattle.tree.proofs.LevelValues.{length-stored, stored-within, level-within, level-half, level-above, fetched-stored}
 
 pub height-least : HeightLeast
@@ -93,9 +94,7 @@ access-opens = record {
   nodes = toward-rank;
   some = λ n i h. rw (toward-on n i 1 (le-refl 1) h) (omega arith);
   few = λ n i. walk-length n (λ v. eqb (rank n v) i) (λ v. ltb (rank n v) i) 1 (le-refl 1);
-  count = λ n time i t k e.
-      let nodes = toward n i in
-      subst (Found (λ x m. m ≡ length nodes)) e (met-found (λ x m. m ≡ length nodes) time (known (time (lastOf 0 nodes))) (length nodes) refl nodes);
+  count = λ n time i t k e. met-told time (toward n i) e .1;
 }
 
 pub stored-levels : StoredLevels
@@ -103,7 +102,7 @@ stored-levels = record { count = length-stored; within = stored-within; level-wi
 
 -- access finds each time of the list
 listing : (levels : Levels) (s xs : List ℕ) → Held levels s xs
-    → (timesFrom (accesses levels s) (levels .pins) 0 ≡ xs) × (stopFrom (accesses levels s) (levels .pins) 0 ≡ nowhere)
+    → (timesAll levels s ≡ xs) × (stopAll levels s ≡ nowhere)
 listing levels s xs held = times-known levels s xs (held .stores .pins-are) (node-times levels s xs held)
 
 pub listing-finds : ListingFinds
@@ -125,3 +124,6 @@ sweep-finds = record {
 
 pub chosen-stored : ChosenStored
 chosen-stored = listed-chosen
+
+pub stored-chosen : StoredChosen
+stored-chosen = codes-chosen

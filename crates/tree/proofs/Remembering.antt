@@ -1,158 +1,134 @@
--- The arrays of remembered nodes: what they say of a walk, and what a step down adds.
-use mathlib.Core.Path.{_≡_, refl, sym, ap, subst, _∙_}
+-- The remembered nodes of a sweep: what a step down adds to them.
+use mathlib.Core.Path.{_≡_, refl, sym, subst, _∙_}
 use mathlib.Core.Bool.{Bool, true, false, cond}
 use mathlib.Core.List.{List, _∷_}
-use Prim.Native.Nat.{ℕ, zero, suc, _+_, _-_, _≤_, _<_}
+use Prim.Native.Nat.{ℕ, zero, suc, _+_, _-_, _/_, _≤_, _<_}
 use native.Mathlib.Nat.{le-refl, zero-add}
 use native.Mathlib.Numerals.{add-one}
-use native.Mathlib.Decide.{decLt, ℕ-discrete}
+use native.Mathlib.Decide.{decLt}
 use native.Mathlib.Omega.{arith}
 use lib.Dec.{ltb}
 use lib.ListN.{length, getD, set, length-set}
 use lib.Seq.{getD-set-same, getD-set-other}
+use borrow.Author.Tests.{lt-ltb, le-ltb}
 use Rattle.tree.specs.declared.nodes.Levels.{Levels}
-use Rattle.tree.specs.declared.targets.Ending.{Ending}
-use Rattle.tree.specs.declared.targets.Ending.the-variants.{Nodes}
-use Rattle.tree.specs.Shape.{childOf, stretch}
+use Rattle.tree.specs.declared.targets.Progress.{Progress}
+use Rattle.tree.specs.Shape.{height, childOf}
 use Rattle.tree.specs.Levels.{Fits}
 use Rattle.tree.specs.Times.{at, timesIn}
-use Rattle.tree.specs.Walks.{position}
-use Rattle.tree.specs.Standing.{Stands}
-use Rattle.tree.specs.Remembering.{Remembered, remembered, entries, keptIn, Entry, Keeps, Resumes, Rests, Remembers}
-use Rattle.tree.proofs.Heights.{height-mono, height-above}
+use Rattle.tree.specs.Walks.{keptFrom, targetFrom}
+use Rattle.tree.specs.Remembering.{entries, Place, Entry, GoesOn, answerOn, keptOn, Comes}
+use Rattle.tree.proofs.Heights.{height-mono, height-above, height-step}
 use Rattle.tree.proofs.Stretches.{stretch-root, stretch-child}
 use Rattle.tree.proofs.Walks.{parent-of, height-child}
-use Rattle.tree.proofs.Steps.{stands-place, stands-rank}
+use Rattle.tree.proofs.Steps.{root-depth, stands-root, stands-place, stands-child, side-ends, kept-step, target-step}
 
 -- ---- a node more
-
-getD-before : (xs : List ℕ) (i c v : ℕ) → i < c → getD (set xs c v) i 0 ≡ getD xs i 0
-getD-before xs i c v h = getD-set-other xs c i v 0 (λ e. omega (arith, e))
 
 entries-set : (xs : List ℕ) (c i v : ℕ) → i ≤ c → entries (set xs c v) i ≡ entries xs i
 unfolding entries
 entries-set xs c zero v h = refl
-entries-set xs c (suc i) v h = rw (getD-before xs i c v h, entries-set xs c i v (omega arith))
+entries-set xs c (suc i) v h = rw (getD-set-other xs c i v 0 (λ e. omega (arith, e)), entries-set xs c i v (omega arith))
 
-module _ (levels : Levels) (s : List ℕ) where
-  abbrev n : ℕ
-  n = levels .pins
-
-  module _ (w : Remembered) (v x : ℕ) where
-    -- node v with time x remembered too
-    abbrev pub withNode : Remembered
-    withNode = record { count = suc (w .count); nodes = set (w .nodes) (w .count) v; times = set (w .times) (w .count) x }
-
-    -- as the code adds it
-    pub added : record { count = w .count + 1; nodes = set (w .nodes) (w .count) v; times = set (w .times) (w .count) x } ≡ withNode
-    added = rw (add-one (w .count))
-
-    entry-before : (i : ℕ) → i < w .count → Entry levels s (w .nodes) (w .times) i → Entry levels s (withNode .nodes) (withNode .times) i
-    entry-before i h e =
-        let c = w .count in
-        let same = getD-before (w .nodes) i c v h in
-        record {
-          one = rw same (e .one);
-          among = rw same (e .among);
-          time = rw (same, getD-before (w .times) i c x h) (e .time);
-          ends = rw (same, entries-set (w .nodes) c i v (omega arith)) (e .ends);
-          deep = rw same (e .deep);
-        }
-
-  -- no more nodes are remembered than there are levels
-  pub keeps-few : (w : Remembered) → Fits levels s → Keeps levels s w → w .count ≤ 16
-  keeps-few w f k = elim (ℕ-discrete (w .count) 0) [
-    | yes e ↦ omega arith
-    | no e ↦
-        let d = k .entry (w .count - 1) (omega arith) in
-        omega (arith, d .deep, height-mono (getD (w .nodes) (w .count - 1) 0) n (d .among), f .height-fits)
-  ]
-
-  -- nothing is remembered in arrays of 16
-  pub keeps-none : {nodes times : List ℕ} → length nodes ≡ 16 → length times ≡ 16 → Keeps levels s (remembered 0 nodes times)
-  keeps-none a b = record {
-    nodes-size = a;
-    times-size = b;
-    entry = λ i h. absurd (omega arith);
-  }
-
-  -- what a target that is not refused leaves
-  pub remembers-opened : (w : Remembered) (p : ℕ) (end : Ending) (k : ℕ) (vs : List ℕ) → end ≡ Nodes k → Remembers levels s w p end vs → (keptIn w ≡ vs) × Rests levels s w p k
-  remembers-opened w p end k vs e h = subst (λ (e : Ending). Remembers levels s w p e vs) e h
-
-  pub resumes-root : (w : Remembered) → Keeps levels s w → w .count ≡ 0 → Resumes levels s w 1 0
-  unfolding entries
-  resumes-root w k z = record {
-    keeps = k;
-    child = omega arith;
-    ends = rw (stretch-root n) (zero-add n ∙ ap (λ (c : ℕ). position n (entries (w .nodes) c)) (sym z));
-    deep = rw z (height-above 1 0 (le-refl 1));
-    few = omega arith;
-  }
+entries-added : (xs : List ℕ) (c v : ℕ) → c < length xs → entries (set xs c v) (c + 1) ≡ v ∷ entries xs c
+unfolding entries
+entries-added xs c v h = rw (add-one c, getD-set-same xs c v 0 h, entries-set xs c c v (le-refl c))
 
 -- ---- one step down
 
-module _ {levels : Levels} {s : List ℕ} {w : Remembered} {v depth above k : ℕ} (st : Stands levels s v depth (stretch (levels .pins) v) above)
-    (r : Resumes levels s w v k) (l : v ≤ levels .pins) (f : Fits levels s) where
-  pub count-under-16 : w .count < 16
-  count-under-16 = omega (arith, r .deep, height-mono v (levels .pins) l, f .height-fits)
+-- where a sweep stands that leaves node v, whose time is x, by a side; to the left the node is remembered
+pub place-side : {levels : Levels} {s kept : List ℕ} {i v above x : ℕ} → Place levels s kept i v above → v ≤ levels .pins → timesIn levels s v ≡ at x
+    → (right : Bool) (j : ℕ) → j ≤ i + 1 → Place levels s (cond right kept (v ∷ kept)) j (childOf right v) x
+place-side {levels} {s} {kept} {i} {v} {above} {x} p l e right j h =
+    let one = p .stands .one in
+    let deeper = height-child right v one in
+    let d : height (childOf right v) - 1 ≡ height v - 1 + 1 = omega (arith, height-above v 0 one) in
+    record {
+      stands = rw (d, stretch-child (levels .pins) right v one) (stands-child (p .stands) right x l e);
+      child = rw (parent-of right v) l;
+      ends = rw (stretch-child (levels .pins) right v one) (sym (side-ends (p .stands) l right kept (sym (p .ends))));
+      deep = omega (arith, p .deep);
+    }
 
-  node-added : getD (set (w .nodes) (w .count) v) (w .count) 0 ≡ v
-  node-added = getD-set-same (w .nodes) (w .count) v 0 (rw (r .keeps .nodes-size) count-under-16)
+-- before the first target
+pub goes-root : (levels : Levels) (s : List ℕ) {nodes times : List ℕ} → length nodes ≡ 16 → length times ≡ 16
+    → GoesOn levels s nodes times (record { count = 0; v = 1; above = 0; opened = 0 })
+unfolding entries
+goes-root levels s a b = record {
+  nodes-size = a;
+  times-size = b;
+  entry = λ i h. absurd (omega arith);
+  place = record {
+    stands = rw (root-depth, stretch-root (levels .pins)) (stands-root levels s);
+    child = omega arith;
+    ends = rw (stretch-root (levels .pins)) (zero-add (levels .pins));
+    deep = height-above 1 0 (le-refl 1);
+  };
+  few = omega arith;
+}
 
-  resumes-right : Resumes levels s w (childOf true v) (k + 1)
-  resumes-right =
-      let p = stands-place st l in
+module _ {levels : Levels} {s nodes times : List ℕ} {p : Progress} (g : GoesOn levels s nodes times p) (f : Fits levels s) where
+  -- no more nodes are remembered than there are levels
+  pub count-in : p .count ≤ 16
+  count-in = omega (arith, g .place .deep, height-step (p .v) (g .place .stands .one), height-mono (p .v / 2) (levels .pins) (g .place .child), f .height-fits)
+
+  pub count-under : p .v ≤ levels .pins → p .count < 16
+  count-under l = omega (arith, g .place .deep, height-mono (p .v) (levels .pins) l, f .height-fits)
+
+-- a target's step from node v, whose time is x, to the child that the comparison tells
+module _ {levels : Levels} {s nodes₀ nodes times : List ℕ} {from p : Progress} (t : ℕ) (m : Comes levels s t nodes₀ from nodes times p) (f : Fits levels s)
+    (l : p .v ≤ levels .pins) {x : ℕ} (e : timesIn levels s (p .v) ≡ at x) where
+  abbrev n : ℕ
+  n = levels .pins
+
+  abbrev c : ℕ
+  c = p .count
+
+  abbrev v : ℕ
+  v = p .v
+
+  abbrev g : GoesOn levels s nodes times p
+  g = m .goes
+
+  answer-next : (right : Bool) → ltb x t ≡ right → targetFrom n (timesIn levels s) t (cond right (entries nodes c) (v ∷ entries nodes c)) (p .opened + 1) (childOf right v) ≡ answerOn levels s t nodes₀ from
+  answer-next right h = sym (rw h at (target-step n (timesIn levels s) t (entries nodes c) v x (g .place .stands .one) l e (p .opened))) ∙ m .answer
+
+  kept-next : (right : Bool) → ltb x t ≡ right → keptFrom n (timesIn levels s) t (cond right (entries nodes c) (v ∷ entries nodes c)) (childOf right v) ≡ keptOn levels s t nodes₀ from
+  kept-next right h = sym (rw h at (kept-step n (timesIn levels s) t (entries nodes c) v x (g .place .stands .one) l e)) ∙ m .kept
+
+  pub comes-right : x < t → Comes levels s t nodes₀ from nodes times (record { count = c; v = childOf true v; above = x; opened = p .opened + 1 })
+  comes-right h = record {
+    goes = record {
+      nodes-size = g .nodes-size;
+      times-size = g .times-size;
+      entry = g .entry;
+      place = place-side (g .place) l e true c (omega arith);
+      few = rw (stretch-child n true v (g .place .stands .one)) (omega (arith, g .few, stands-place (g .place .stands) l));
+    };
+    answer = answer-next true (lt-ltb x t h);
+    kept = kept-next true (lt-ltb x t h);
+  }
+
+  pub comes-left : t ≤ x → Comes levels s t nodes₀ from (set nodes c v) (set times c x) (record { count = c + 1; v = childOf false v; above = x; opened = p .opened + 1 })
+  comes-left h =
+      let nodes' = set nodes c v in
+      let times' = set times c x in
+      let in-nodes : c < length nodes = rw (g .nodes-size) (count-under g f l) in
+      let in-times : c < length times = rw (g .times-size) (count-under g f l) in
+      let more = entries-added nodes c v in-nodes in
+      let last : Entry levels s (entries nodes' c) c (getD nodes' c 0) (getD times' c 0) =
+      rw (entries-set nodes c c v (le-refl c), getD-set-same nodes c v 0 in-nodes, getD-set-same times c x 0 in-times) (record { above = p .above; place = g .place; among = l; time = e }) in
       record {
-        keeps = r .keeps;
-        child = rw (parent-of true v) l;
-        ends = rw (stretch-child (levels .pins) true v (st .one)) (omega (arith, r .ends));
-        deep = rw (height-child true v (st .one)) (omega (arith, r .deep));
-        few = rw (stretch-child (levels .pins) true v (st .one)) (omega (arith, r .few));
-      }
-
-  resumes-left : (x : ℕ) → timesIn levels s v ≡ at x → Resumes levels s (withNode levels s w v x) (childOf false v) (k + 1)
-  unfolding entries
-  resumes-left x e =
-      let p = stands-place st l in
-      let c = w .count in
-      let last : Entry levels s (withNode levels s w v x .nodes) (withNode levels s w v x .times) c = record {
-        one = rw node-added (st .one);
-        among = rw node-added l;
-        time = rw (node-added, getD-set-same (w .times) c x 0 (rw (r .keeps .times-size) count-under-16)) e;
-        ends = rw (node-added, entries-set (w .nodes) c c v (le-refl c)) (r .ends);
-        deep = rw node-added (r .deep);
-      } in
-      record {
-        keeps = record {
-          nodes-size = length-set (w .nodes) c v ∙ r .keeps .nodes-size;
-          times-size = length-set (w .times) c x ∙ r .keeps .times-size;
+        goes = record {
+          nodes-size = length-set nodes c v ∙ g .nodes-size;
+          times-size = length-set times c x ∙ g .times-size;
           entry = λ i h. elim (decLt i c) [
-            | yes y ↦ entry-before levels s w v x i y (r .keeps .entry i y)
-            | no y ↦ let q : c ≡ i = omega arith in subst (Entry levels s (withNode levels s w v x .nodes) (withNode levels s w v x .times)) q last
+            | yes y ↦ rw (entries-set nodes c i v (omega arith), getD-set-other nodes c i v 0 (λ q. omega (arith, q)), getD-set-other times c i x 0 (λ q. omega (arith, q))) (g .entry i y)
+            | no y ↦ let q : c ≡ i = omega arith in subst (λ (i : ℕ). Entry levels s (entries nodes' i) i (getD nodes' i 0) (getD times' i 0)) q last
           ];
+          place = rw more (place-side (g .place) l e false (c + 1) (le-refl (c + 1)));
+          few = rw (stretch-child n false v (g .place .stands .one)) (omega (arith, g .few));
         };
-        child = rw (parent-of false v) l;
-        ends = rw (node-added, stretch-child (levels .pins) false v (st .one)) (omega (arith, stands-rank st));
-        deep = rw (height-child false v (st .one)) (omega (arith, r .deep));
-        few = rw (stretch-child (levels .pins) false v (st .one)) (omega (arith, r .few));
+        answer = rw more (answer-next false (le-ltb x t h));
+        kept = rw more (kept-next false (le-ltb x t h));
       }
-
-  -- what is remembered after a step past a node with time x, for target t
-  abbrev after : ℕ → ℕ → Remembered
-  after x t = cond (ltb x t) w (withNode levels s w v x)
-
-  pub resumes-child : (x t : ℕ) → timesIn levels s v ≡ at x → Resumes levels s (after x t) (childOf (ltb x t) v) (k + 1)
-  resumes-child x t e = go (ltb x t)
-    where
-      go : (b : Bool) → Resumes levels s (cond b w (withNode levels s w v x)) (childOf b v) (k + 1)
-      go true = resumes-right
-      go false = resumes-left x e
-
-  pub kept-child : (x t : ℕ) → keptIn (after x t) ≡ cond (ltb x t) (keptIn w) (v ∷ keptIn w)
-  unfolding entries
-  kept-child x t = go (ltb x t)
-    where
-      go : (b : Bool) → keptIn (cond b w (withNode levels s w v x)) ≡ cond b (keptIn w) (v ∷ keptIn w)
-      go true = refl
-      go false = rw (node-added, entries-set (w .nodes) (w .count) (w .count) v (le-refl (w .count)))

@@ -2,7 +2,7 @@
 use mathlib.Core.Path.{_≡_, sym, ap, _∙_}
 use mathlib.Core.Bool.{Bool, true, false, cond}
 use mathlib.Core.List.{List, _∷_}
-use Prim.Native.Nat.{ℕ, suc, _+_, _-_, _/_, _≤_, _<_}
+use Prim.Native.Nat.{ℕ, suc, _+_, _-_, _^_, _≤_, _<_}
 use native.Mathlib.Nat.{zero-add, le-refl}
 use native.Mathlib.Numerals.{add-one}
 use native.Mathlib.Omega.{arith}
@@ -11,34 +11,18 @@ use lib.ListN.{length}
 use borrow.Author.Tests.{eq-eqb, ne-eqb}
 use Rattle.tree.specs.declared.shape.Stretch.{Stretch}
 use Rattle.tree.specs.declared.nodes.Levels.{Levels}
-use Rattle.tree.specs.declared.nodes.Opened.{Opened}
-use Rattle.tree.specs.Shape.{height, rootPlace, childOf, sideOf, stretch, rank}
+use Rattle.tree.specs.Shape.{height, rootPlace, childOf, sideOf, rank}
 use Rattle.tree.specs.Levels.{fetchedAt, Fits}
-use Rattle.tree.specs.Times.{Time, at, refused, timeOpened, under, known, timesIn}
+use Rattle.tree.specs.Times.{Time, at, refused, timeTold, under, known, timesIn}
 use Rattle.tree.specs.Walks.{Answer, found, stopped, met, towardFrom, toward, lastOf, accessAnswer, isBelow, searchNodes, remember, position, keptFrom, targetFrom}
 use Rattle.tree.specs.Standing.{Stands, accessFrom}
-use Rattle.tree.proofs.Heights.{height-is, digits, place-in}
-use Rattle.tree.proofs.Stretches.{stretch-root, stretch-child, side-in, pins-of-node, node-of-pins, no-pins}
-use Rattle.tree.proofs.NodeTimes.{time-above, time-step}
+use Rattle.tree.proofs.Heights.{height-is}
+use Rattle.tree.proofs.Stretches.{stretch-root, stretch-child, side-in, pins-of-node, node-of-pins, no-pins, place-some, rank-is}
+use Rattle.tree.proofs.NodeTimes.{time-above, time-step, told-time}
 use Rattle.tree.proofs.NodeFetches.{Level, level-fits}
 use Rattle.tree.proofs.Walks.{child-bounds, parent-of, walk-out, walk-on, toward-on, met-fine, met-refused}
 
 -- ---- where a walk stands
-
--- at a node, by its number
-pub stands-at : (levels : Levels) (s : List ℕ) (v : ℕ) (here : Stretch) (above : ℕ) → 1 ≤ v → stretch (levels .pins) v ≡ here
-    → here .start + here .pins ≤ levels .pins → timesIn levels s (v / 2) ≡ at above → Stands levels s v (height v - 1) here above
-stands-at levels s v here above h e i p =
-    let d = digits v h in
-    let top : height v - 1 ≡ d .top = omega (arith, d .is) in
-    record {
-      one = h;
-      low = rw top (d .least);
-      high = rw top (omega (arith, d .below));
-      under = e;
-      inside = i;
-      parent = p;
-    }
 
 pub stands-root : (levels : Levels) (s : List ℕ) → Stands levels s 1 0 (record { start = 0; pins = levels .pins }) 0
 stands-root levels s = record {
@@ -54,18 +38,17 @@ pub root-depth : height 1 - 1 ≡ 0
 root-depth = omega (arith, height-is 0 1 (le-refl 1) (omega arith))
 
 module _ {levels : Levels} {s : List ℕ} {v depth : ℕ} {here : Stretch} {above : ℕ} (w : Stands levels s v depth here above) where
-  pub stands-pins : v ≤ levels .pins → 1 ≤ here .pins
+  stands-pins : v ≤ levels .pins → 1 ≤ here .pins
   stands-pins k = rw (w .under) at (pins-of-node (levels .pins) v (w .one) k)
 
   pub stands-node : 1 ≤ here .pins → v ≤ levels .pins
   stands-node h = node-of-pins (levels .pins) v (rw (w .under) h)
 
   pub stands-place : v ≤ levels .pins → (1 ≤ rootPlace (here .pins)) × (rootPlace (here .pins) ≤ here .pins)
-  stands-place k = place-in (here .pins) (stands-pins k)
+  stands-place k = place-some (levels .pins) (w .one) k (w .under)
 
   pub stands-rank : rank (levels .pins) v ≡ here .start + rootPlace (here .pins) - 1
-  unfolding rank
-  stands-rank = rw (w .under)
+  stands-rank = rank-is (levels .pins) v (w .under)
 
   -- past the last node the stretch ends where it starts
   pub stands-end : levels .pins < v → here .start + here .pins ≡ here .start
@@ -80,9 +63,12 @@ module _ {levels : Levels} {s : List ℕ} {v depth : ℕ} {here : Stretch} {abov
   pub stands-level : Fits levels s → v ≤ levels .pins → Level levels s depth
   stands-level f k = level-fits f (w .low) k
 
-  -- what opening the node gives is its time
-  pub stands-opened : {o x : Opened} → timeOpened o ≡ under v (at above) (fetchedAt levels s v) → o ≡ x → timesIn levels s v ≡ timeOpened x
-  stands-opened e g = time-step (fetchedAt levels s) v (w .one) ∙ rw (w .parent) (sym e) ∙ ap timeOpened g
+  -- what opening the node tells is its time
+  pub stands-told : (told : ℕ) → timeTold v told ≡ under v (at above) (fetchedAt levels s v) → timesIn levels s v ≡ timeTold v told
+  stands-told told e = time-step (fetchedAt levels s) v (w .one) ∙ rw (w .parent) (sym e)
+
+  pub stands-time : {told : ℕ} → timeTold v told ≡ under v (at above) (fetchedAt levels s v) → told < 2 ^ 32 → timesIn levels s v ≡ at told
+  stands-time {told} e h = stands-told told e ∙ told-time v told h
 
   pub stands-child : (right : Bool) (t : ℕ) → v ≤ levels .pins → timesIn levels s v ≡ at t
       → Stands levels s (childOf right v) (depth + 1) (sideOf right here) t

@@ -67,10 +67,17 @@ side-in false s h = let p = place-in (s .pins) h in omega arith
 -- the root's place in a stretch of so many pins
 place-under : (n k u : ℕ) → suc (stretch n u .pins) ≡ 2 ^ suc k + min (2 ^ suc k) (suc n - u * 2 ^ suc k)
     → (suc (stretch n u .pins) ≡ 2 * 2 ^ k + min (2 * 2 ^ k) (suc n - u * (2 * 2 ^ k)))
-    × (rootPlace (stretch n u .pins) ≡ 2 ^ k + min (min (2 * 2 ^ k) (suc n - u * (2 * 2 ^ k))) (2 ^ k))
+    × (rootPlace (stretch n u .pins) ≡ 2 ^ k + min (suc n - u * (2 * 2 ^ k)) (2 ^ k))
 place-under n k u i =
     let i′ = rw (pow-succ' 2 k) at i in
-    (i′, place-law k (stretch n u .pins) (min (2 * 2 ^ k) (suc n - u * (2 * 2 ^ k))) (omega arith) (omega arith))
+    (i′, place-law k (stretch n u .pins) (min (2 * 2 ^ k) (suc n - u * (2 * 2 ^ k))) (omega arith) (omega arith) ∙ omega arith)
+
+-- before the place, and after it
+pins-left : (n u b : ℕ) → 1 ≤ b → suc (b + min (suc n - u * (2 * b)) b - 1) ≡ b + min b (suc n - 2 * u * b)
+pins-left n u b h = omega arith
+
+pins-right : (n u b p : ℕ) → suc p ≡ 2 * b + min (2 * b) (suc n - u * (2 * b)) → suc (p - (b + min (suc n - u * (2 * b)) b)) ≡ b + min b (suc n - (2 * u + 1) * b)
+pins-right n u b p e = omega arith
 
 -- under a node v at depth d: with k levels between it and the last, its full levels have 2 ^ k - 1 nodes, and of
 -- the last level those from v * 2 ^ k on that are at most n
@@ -86,14 +93,14 @@ pins-at n j (suc d) k v ej lo hi a b = go (child v (omega (arith, pow-pos d))) (
         → suc (stretch n v .pins) ≡ 2 ^ k + min (2 ^ k) (suc n - v * 2 ^ k)
     go (left u h e) r =
         let i = place-under n k u (r u (omega arith) (omega arith)) in
-        rw (e, stretch-left n u h, i .1) (omega (arith, i .0, pow-pos k))
+        rw (e, stretch-left n u h, i .1) (pins-left n u (2 ^ k) (pow-pos k))
     go (right u h e) r =
         let i = place-under n k u (r u (omega arith) (omega arith)) in
-        rw (e, stretch-right n u h, i .1) (omega (arith, i .0, pow-pos k))
+        rw (e, stretch-right n u h, i .1) (pins-right n u (2 ^ k) (stretch n u .pins) (i .0))
 
 -- the place of its root, where it is not on the last level
 pub place-at : (n j d k u : ℕ) → j ≡ d + suc k → 2 ^ j ≤ n → n < 2 ^ suc j → 2 ^ d ≤ u → u < 2 ^ suc d
-    → rootPlace (stretch n u .pins) ≡ 2 ^ k + min (min (2 * 2 ^ k) (suc n - u * (2 * 2 ^ k))) (2 ^ k)
+    → rootPlace (stretch n u .pins) ≡ 2 ^ k + min (suc n - u * (2 * 2 ^ k)) (2 ^ k)
 place-at n j d k u ej lo hi a b = place-under n k u (pins-at n j d (suc k) u ej lo hi a b) .1
 
 -- a node with no more than one pin has no children

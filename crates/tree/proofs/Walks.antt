@@ -1,5 +1,5 @@
 -- A walk goes from a node to one of its children, and has at most as many nodes as the height.
-use mathlib.Core.Path.{_≡_, refl, ap, _∙_}
+use mathlib.Core.Path.{_≡_, refl, ap, subst, _∙_}
 use mathlib.Core.Bool.{Bool, true, false, cond}
 use mathlib.Core.List.{List, [], _∷_}
 use Prim.Native.Nat.{ℕ, zero, suc, _+_, _-_, _*_, _/_, _%_, _≤_, _<_}
@@ -93,6 +93,9 @@ met-found P time x k h (v ∷ vs) = go (time v) (met time (found x k) vs) (met-f
     go : (z : Time) (later : Answer) → Found P later → Found P (unless z later)
     go (at t) later f = f
     go (refused r u) later f = tt
+
+pub met-told : (time : ℕ → Time) {x k t m : ℕ} (vs : List ℕ) → met time (found x k) vs ≡ found t m → (t ≡ x) × (m ≡ k)
+met-told time {x} {k} vs e = subst (Found (λ t m. (t ≡ x) × (m ≡ k))) e (met-found (λ t m. (t ≡ x) × (m ≡ k)) time x k (refl, refl) vs)
 
 -- ---- walks that agree at the nodes
 

@@ -3,19 +3,16 @@ use mathlib.Core.Bool.{Bool, true, false, _&&_}
 use mathlib.Core.List.{List}
 use Prim.Native.Nat.{ℕ, zero, suc}
 use Rattle.codes.specs.Choice.{isChosen}
-use Rattle.codes.specs.Decode.{Decoded, all, undecoded, decoded}
+use Rattle.codes.specs.Decode.{Decoded, all, undecoded}
 use Rattle.tree.specs.declared.nodes.Levels.{Levels}
 use Rattle.tree.specs.Shape.{height}
-use Rattle.tree.specs.Levels.{countOf, codeOf, partOf}
+use Rattle.tree.specs.Levels.{codeOf, partOf}
+use Rattle.tree.specs.DecodedLevels.{decodedAt}
 
 -- a part in a code, by what it is decoded to
 abbrev pub chosenBy : ℕ → List ℕ → Decoded → Bool
 chosenBy code bytes (all vs) = isChosen code vs bytes
 chosenBy code bytes undecoded = false
-
--- what level L is decoded to
-abbrev pub decodedAt : Levels → List ℕ → ℕ → Decoded
-decodedAt at s l = decoded (codeOf at l) (countOf (at .pins) l) (partOf at s l)
 
 abbrev pub levelChosen : Levels → List ℕ → ℕ → Bool
 levelChosen at s l = chosenBy (codeOf at l) (partOf at s l) (decodedAt at s l)

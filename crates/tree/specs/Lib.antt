@@ -1,6 +1,6 @@
--- What the tree means. A reader of the public contracts needs Shape, Lists, Stored, Levels, Times, Walks, Sweeps, Buffers, Listing and Chosen;
--- Marked has lists with what their nodes store, Promises what is shown besides the contracts. Filled, Standing, Known, Merged and
--- Remembering are cited by private functions alone.
+-- What the tree means. A reader of the public contracts needs Shape, Lists, Stored, Levels, Times, Walks, Sweeps, Buffers, Listing,
+-- DecodedLevels and Chosen; Marked has lists with what their nodes store, Promises what is shown besides the contracts. Filled,
+-- Standing, Merged and Remembering are cited by private functions alone.
 pub mod Shape
 pub mod Lists
 pub mod Stored
@@ -10,11 +10,11 @@ pub mod Walks
 pub mod Sweeps
 pub mod Buffers
 pub mod Listing
+pub mod DecodedLevels
 pub mod Chosen
 pub mod Marked
 pub mod Promises
 pub mod Filled
 pub mod Standing
-pub mod Known
 pub mod Merged
 pub mod Remembering

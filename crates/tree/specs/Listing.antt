@@ -35,6 +35,14 @@ unfoldable pub stopFrom : (ℕ → Answer) → ℕ → ℕ → Stop
 stopFrom answer zero i = nowhere
 stopFrom answer (suc k) i = stopOr i (answer i) (stopFrom answer k (suc i))
 
+-- all positions: the times
+abbrev pub timesAll : Levels → List ℕ → List ℕ
+timesAll levels s = timesFrom (accesses levels s) (levels .pins) 0
+
+-- and what ends them early
+abbrev pub stopAll : Levels → List ℕ → Stop
+stopAll levels s = stopFrom (accesses levels s) (levels .pins) 0
+
 -- the position where a listing of k positions from 0 on ends
 abbrev pub endOf : Stop → ℕ → ℕ
 endOf nowhere k = k

@@ -3,13 +3,17 @@
 -- hangs where i is odd.
 use mathlib.Core.Path.{_≡_}
 use mathlib.Core.List.{List}
-use Prim.Native.Nat.{ℕ, suc, _+_, _*_, _/_, _≤_, _<_, min}
+use Prim.Native.Nat.{ℕ, suc, _+_, _-_, _*_, _/_, _≤_, _<_, min}
 use lib.ListN.{length, getD}
 use Rattle.codes.specs.Fetch.{value}
 use Rattle.tree.specs.declared.nodes.Levels.{Levels}
 use Rattle.tree.specs.Shape.{rank}
+use Rattle.tree.specs.Levels.{fetchedAt}
 use Rattle.tree.specs.Times.{at, under, timesIn}
-use Rattle.tree.specs.Known.{KnownValues}
+
+-- what is fetched for the first nodes, in node order: entry v - 1 is node v's
+abbrev pub KnownValues : Levels → List ℕ → List ℕ → Type 0
+KnownValues levels s values = (v : ℕ) → 1 ≤ v → v ≤ length values → fetchedAt levels s v ≡ value (getD values (v - 1) 0)
 
 -- the times of the first k nodes, at their ranks in the tree of these
 abbrev pub KnownRanks : Levels → List ℕ → ℕ → List ℕ → Type 0

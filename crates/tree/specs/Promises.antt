@@ -1,5 +1,5 @@
 -- What is shown of the tree besides each function's contract. proofs/Promises proves each, as `height-least`, `shape`, `contents`,
--- `search-finds`, `access-opens`, `stored-levels`, `listing-finds`, `sweep-finds` and `chosen-stored`.
+-- `search-finds`, `access-opens`, `stored-levels`, `listing-finds`, `sweep-finds`, `chosen-stored` and `stored-chosen`.
 use mathlib.Core.Path.{_≡_}
 use mathlib.Core.Logic.{_≢_, _↔_}
 use mathlib.Core.Bool.{Bool, true, false}
@@ -15,10 +15,10 @@ use Rattle.tree.specs.Lists.{ordered, smaller}
 use Rattle.tree.specs.Stored.{timeOf, storedValues}
 use Rattle.tree.specs.Levels.{firstOf, levelOf, codeOf, partOf, levelValues, Stores}
 use Rattle.tree.specs.Times.{Time, at, timesIn}
-use Rattle.tree.specs.Listing.{nowhere, accesses, timesFrom, stopFrom, endOf}
+use Rattle.tree.specs.Listing.{nowhere, accesses, timesFrom, stopFrom, timesAll, stopAll, endOf}
 use Rattle.tree.specs.Chosen.{allChosen}
 use Rattle.tree.specs.Walks.{walk, Answer, found, toward, accessAnswer, searchNodes, searchAnswer, path, fromRoot}
-use Rattle.tree.specs.Sweeps.{sweep, different}
+use Rattle.tree.specs.Sweeps.{sweepAll, different}
 
 -- The height is the least number with 2 ^ h - 1 ≥ n.
 pub record HeightLeast : Type 0 where
@@ -85,21 +85,28 @@ pub record StoredLevels : Type 0 where
 pub record ListingFinds : Type 0 where
   pub count : (answer : ℕ → Answer) (k : ℕ) → length (timesFrom answer k 0) ≡ endOf (stopFrom answer k 0) k
   pub within : (levels : Levels) (s : List ℕ) (k : ℕ) → Within 32 (timesFrom (accesses levels s) k 0)
-  pub times : (levels : Levels) (s xs : List ℕ) → Held levels s xs → timesFrom (accesses levels s) (levels .pins) 0 ≡ xs
-  pub stop : (levels : Levels) (s xs : List ℕ) → Held levels s xs → stopFrom (accesses levels s) (levels .pins) 0 ≡ nowhere
+  pub times : (levels : Levels) (s xs : List ℕ) → Held levels s xs → timesAll levels s ≡ xs
+  pub stop : (levels : Levels) (s xs : List ℕ) → Held levels s xs → stopAll levels s ≡ nowhere
 
 -- 7. A sweep of targets in order gives each the number of times smaller than it, as its search does. It opens each node on the paths of
 -- its targets once, at most all pins, and at most the height for each target. Nothing is refused.
 pub record SweepFinds : Type 0 where
   pub answer : (levels : Levels) (s xs : List ℕ) → Held levels s xs → (ts : List ℕ) → T (ordered ts)
-      → sweep (levels .pins) (timesIn levels s) ts ≡ record { positions = map (λ t. smaller t xs) ts; answer = found 0 (different xs ts) }
+      → sweepAll levels s ts ≡ record { positions = map (λ t. smaller t xs) ts; answer = found 0 (different xs ts) }
   pub pins : (xs ts : List ℕ) → different xs ts ≤ length xs
   pub heights : (xs ts : List ℕ) → different xs ts ≤ length ts * height (length xs)
 
 -- 8. Where the levels are what pack writes for the values that they are decoded to, and every position has a time, these values are what
 -- the tree of the listed times stores.
 abbrev pub ChosenStored : Type 0
-ChosenStored = (levels : Levels) (s : List ℕ) → allChosen levels s ≡ true → nowhere ≡ stopFrom (accesses levels s) (levels .pins) 0
+ChosenStored = (levels : Levels) (s : List ℕ) → allChosen levels s ≡ true → nowhere ≡ stopAll levels s
     → (l : ℕ) → 1 ≤ l → l ≤ height (levels .pins)
-    → let vs = levelValues (storedValues (timesFrom (accesses levels s) (levels .pins) 0)) l in
+    → let vs = levelValues (storedValues (timesAll levels s)) l in
     (chosen vs .code ≡ codeOf levels l) × (part (codeOf levels l) vs ≡ partOf levels s l)
+
+-- 9. The other way round: levels that hold what a list's tree stores, each in the code that pack chooses, are what pack writes for the
+-- values that they are decoded to.
+abbrev pub StoredChosen : Type 0
+StoredChosen = (levels : Levels) (s xs : List ℕ) → Stores levels s xs
+    → ((l : ℕ) → 1 ≤ l → l ≤ height (length xs) → codeOf levels l ≡ chosen (levelValues (storedValues xs) l) .code)
+    → allChosen levels s ≡ true

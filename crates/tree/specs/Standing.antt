@@ -5,7 +5,6 @@ use Prim.Native.Nat.{ℕ, _+_, _*_, _/_, _^_, _≤_, _<_}
 use lib.ListN.{length}
 use Rattle.tree.specs.declared.shape.Stretch.{Stretch}
 use Rattle.tree.specs.declared.nodes.Levels.{Levels}
-use Rattle.tree.specs.declared.targets.Point.{Point}
 use Rattle.tree.specs.Shape.{stretch}
 use Rattle.tree.specs.Times.{Time, at, known, timesIn}
 use Rattle.tree.specs.Walks.{Answer, found, met, towardFrom, lastOf}
@@ -23,10 +22,6 @@ pub record Stands (levels : Levels) (s : List ℕ) (v depth : ℕ) (here : Stret
   pub under : stretch (levels .pins) v ≡ here
   pub inside : here .start + here .pins ≤ levels .pins
   pub parent : timesIn levels s (v / 2) ≡ at above
-
--- the root, with no node above it
-abbrev pub rootOf : Point
-rootOf = record { v = 1; above = 0 }
 
 -- what an access at i answers that goes on from node v, with k nodes opened
 abbrev pub accessFrom : ℕ → (ℕ → Time) → ℕ → ℕ → ℕ → Answer

@@ -7,7 +7,8 @@ use lib.ListN.{length}
 use Rattle.tree.specs.declared.sweeping.Swept.{Swept}
 use Rattle.tree.specs.declared.sweeping.Swept.the-variants as sweeping
 use Rattle.tree.specs.Shape.{childOf}
-use Rattle.tree.specs.Times.{Time, numberOf, nodeOf}
+use Rattle.tree.specs.declared.nodes.Levels.{Levels}
+use Rattle.tree.specs.Times.{Time, numberOf, nodeOf, timesIn}
 use Rattle.tree.specs.Walks.{Answer, found, stopped, isBelow, keptFrom, targetFrom, path}
 
 -- the nodes still remembered, and the node to go on from
@@ -42,6 +43,10 @@ sweepFrom n time from kept k (t ∷ ts) =
 -- the first target as search does
 abbrev pub sweep : ℕ → (ℕ → Time) → List ℕ → Sweep
 sweep n time ts = sweepFrom n time 1 [] 0 ts
+
+-- in the bytes of a strip
+abbrev pub sweepAll : Levels → List ℕ → List ℕ → Sweep
+sweepAll levels s ts = sweep (levels .pins) (timesIn levels s) ts
 
 abbrev pub swept : Swept → Answer
 swept (sweeping.Nodes k) = found 0 k

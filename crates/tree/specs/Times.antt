@@ -7,8 +7,6 @@ use Rattle.codes.specs.Fetch.{Fetched, value, outside}
 use Rattle.tree.specs.declared.nodes.Levels.{Levels}
 use Rattle.tree.specs.declared.nodes.Refusal.{Refusal}
 use Rattle.tree.specs.declared.nodes.Refusal.the-variants as refusals
-use Rattle.tree.specs.declared.nodes.Opened.{Opened}
-use Rattle.tree.specs.declared.nodes.Opened.the-variants as opened
 use Rattle.tree.specs.Shape.{height}
 use Rattle.tree.specs.Levels.{fetchedAt}
 
@@ -26,10 +24,6 @@ abbrev pub nodeOf : Refusal → ℕ
 nodeOf (refusals.Fetch v) = v
 nodeOf (refusals.Time v) = v
 
-abbrev pub timeOpened : Opened → Time
-timeOpened (opened.Time t) = at t
-timeOpened (opened.Refused r) = refused (numberOf r) (nodeOf r)
-
 -- Node v's time by its parent's and by what is fetched for it. A fetch that fails is refusal 9, a time below 0 or above
 -- 4,294,967,295 refusal 10.
 abbrev pub under : ℕ → Time → Fetched → Time
@@ -40,9 +34,13 @@ under v (at p) (value d) =
     (cond (ltb p d) (refused 10 v) (at (p - d)))
     (cond (ltb (p + d) (2 ^ 32)) (at (p + d)) (refused 10 v))
 
--- a number as node v's time: one of 2 ^ 32 or more is refusal 10
-abbrev pub timeBelow : ℕ → ℕ → Time
-timeBelow v x = cond (ltb x (2 ^ 32)) (at x) (refused 10 v)
+-- a number as node v's time: from 2 ^ 32 on refusal 10, from 2 ^ 33 on refusal 9
+abbrev pub timeTold : ℕ → ℕ → Time
+timeTold v x = cond (ltb x (2 ^ 32)) (at x) (refused (cond (ltb x (2 ^ 33)) 10 9) v)
+
+-- node v's time by its parent's and by what is fetched for it, from the part of its level alone
+abbrev pub timeFetched : Levels → List ℕ → ℕ → ℕ → Time
+timeFetched levels s above v = under v (at above) (fetchedAt levels s v)
 
 -- by the parent's time, f times; above the root the time is 0
 unfoldable pub nodeTimeIn : ℕ → (ℕ → Fetched) → ℕ → Time

@@ -1,16 +1,13 @@
 // One node: what it stores on its level, and its time.
 use super::shape::power_of_two;
 use codes::Found;
-use codes::fetch_inside;
+use codes::fetch_short;
 use codes::least;
 ghost use mathlib.Core.Path.{_≡_};
-ghost use mathlib.Core.Bool.{true};
-ghost use Prim.Native.Nat.{_+_, _-_, _*_, _/_, _^_, _≤_, _<_, min};
-ghost use lib.ListN.{length};
-ghost use Rattle.codes.specs.Fetch.{value, fetched};
-ghost use Rattle.tree.specs.Levels.{levelsOf, fetchedAt, Fits};
-ghost use Rattle.tree.specs.Times.{at, under, timeOpened, timeBelow, timesIn};
-ghost use Rattle.tree.specs.Known.{KnownTimes};
+ghost use Prim.Native.Nat.{_*_, _^_, _≤_, _<_};
+ghost use Rattle.codes.specs.Fetch.{value};
+ghost use Rattle.tree.specs.Levels.{levelsOf, Fits};
+ghost use Rattle.tree.specs.Times.{at, refused, numberOf, nodeOf, under, timeTold, timeFetched};
 
 // The pin count, each level's code byte and each level's end. Entry 0 of the ends is where the first level starts; so the part
 // of level L, counted from 1, is the strip's bytes from entry L - 1 up to entry L.
@@ -31,19 +28,28 @@ pub enum Refusal {
 // The greatest time.
 pub const GREATEST: u32 = 4294967295;
 
-// 2^32, the least number that is no time.
+// A node's time is told as one number: the time, from 2^32 on that it is below 0 or above the greatest (10), from 2^33 on that the fetch
+// is refused (9).
 pub(crate) const LIMIT: u64 = 4294967296;
 
-// The time of a node that is opened.
-pub(crate) enum Opened {
-    Time(u32),
-    Refused(Refusal),
+const OUTSIDE: u64 = 8589934592;
+
+// Why a node has no time.
+pub(crate) fn refusal_of(v: usize, told: u64) -> Refusal
+    requires { ⌜ 2 ^ 32 ≤ told ⌝ }
+    ensures { λ r. ⌜ refused (numberOf r) (nodeOf r) ≡ timeTold v told ⌝ }
+{
+    if told < OUTSIDE {
+        Refusal::Time(v)
+    } else {
+        Refusal::Fetch(v)
+    }
 }
 
-// The time of node v, which stores `d`, by its parent's: a left child is `d` before it, a right child `d` after it. Where it is no time
-// this is 2^32 or more. Both sides have one sum, since a branch on a node's side would be wrong half of the time.
-fn time_or_more(v: usize, above: u32, d: u32) -> u64
-    ensures { λ r. ⌜ timeBelow v r ≡ under v (at above) (value d) ⌝ }
+// The time of node v, which stores `d`, by its parent's: a left child is `d` before it, a right child `d` after it. Both sides have one
+// sum, since a branch on a node's side would be wrong half of the time.
+fn time_under(v: usize, above: u32, d: u32) -> u64
+    ensures { λ r. ⌜ timeTold v r ≡ under v (at above) (value d) ⌝ }
 {
     let change = if v % 2 == 0 {
         LIMIT - d as u64
@@ -57,119 +63,53 @@ fn time_or_more(v: usize, above: u32, d: u32) -> u64
     time - LIMIT
 }
 
-// The same, with the refusal.
-pub(crate) fn time_under(v: usize, above: u32, d: u32) -> Opened
-    ensures { λ r. ⌜ timeOpened r ≡ under v (at above) (value d) ⌝ }
-{
-    let time = time_or_more(v, above, d);
-    if time < LIMIT {
-        return Opened::Time(time as u32);
-    }
-    Opened::Refused(Refusal::Time(v))
-}
-
-// Opens node v of n by a fetch from its level's part alone, in code `code`. It has `depth` levels and the time `above` above it.
-fn open_node(part: &[u8], code: u8, n: usize, depth: usize, v: usize, above: u32) -> Opened
-    requires { ⌜ (2 ^ depth ≤ v) × (v < 2 * 2 ^ depth) × (v ≤ n) × (n < 2 ^ 63) × (length (now part) < 2 ^ 32) ⌝ }
-    ensures { λ r. ⌜ timeOpened r ≡ under v (at above) (fetched code (min (n + 1 - 2 ^ depth) (2 ^ depth)) (v - 2 ^ depth) (now (part .entry))) ⌝ }
-{
-    let first = power_of_two(depth);
-    let count = least(n + 1 - first, first);
-    let found = codes::fetch(part, code, count, v - first);
-    match found {
-        Found::Value(d) => time_under(v, above, d),
-        Found::Outside => Opened::Refused(Refusal::Fetch(v)),
-    }
-}
-
-// Opens node v of n by the codes and ends of all levels, which the walks lend.
-pub(crate) fn open_at<'a>(
+// Opens node v of n by a fetch from its level's part alone. It has `depth` levels and the time `above` above it.
+pub(crate) fn open_full<'a>(
     s: &[u8],
-    ends: &'a [usize],
-    codes: &'a [u8],
-    n: usize,
-    depth: usize,
-    v: usize,
-    above: u32,
-) -> Opened
-    requires { ⌜ Fits (levelsOf n (now codes) (now ends)) (now s) ⌝ }
-    requires { ⌜ (length (now codes) ≡ 16) × (length (now ends) ≡ 17) ⌝ }
-    requires { ⌜ (2 ^ depth ≤ v) × (v < 2 * 2 ^ depth) × (v ≤ n) ⌝ }
-    ensures { λ r. ⌜ timeOpened r ≡ under v (at above) (fetchedAt (levelsOf n (now (codes .entry)) (now (ends .entry))) (now (s .entry)) v) ⌝ }
-{
-    let start = ends[depth];
-    let end = ends[depth + 1];
-    let code = codes[depth];
-    open_node(&s[start..end], code, n, depth, v, above)
-}
-
-// Whether `fetch_inside` has a value of a part of so many bytes.
-fn is_inside(code: u8, bytes: usize, index: usize) -> bool
-    requires { ⌜ (bytes < 2 ^ 32) × (index < 2 ^ 32) ⌝ }
-    ensures { λ r. ⌜ (r ≡ true → (1 ≤ code) × (code ≤ 25) × (4 ≤ bytes) × ((index + 1) * code ≤ bytes * 8)) ⌝ }
-{
-    if code == 0 {
-        return false;
-    }
-    if code > 25 {
-        return false;
-    }
-    if bytes < 4 {
-        return false;
-    }
-    (index + 1) * code as usize <= bytes * 8
-}
-
-// The time of node v of n where `fetch_inside` has its value, or 2^32 or more, which says nothing. Most nodes of a walk are such, and
-// this is short enough to stand in the walk's loop; `open_at` opens any node.
-pub(crate) fn short_time<'a>(
-    s: &[u8],
-    ends: &'a [usize],
-    codes: &'a [u8],
+    ends: &'a [usize; 17],
+    codes: &'a [u8; 16],
     n: usize,
     depth: usize,
     v: usize,
     above: u32,
 ) -> u64
     requires { ⌜ Fits (levelsOf n (now codes) (now ends)) (now s) ⌝ }
-    requires { ⌜ (length (now codes) ≡ 16) × (length (now ends) ≡ 17) ⌝ }
     requires { ⌜ (2 ^ depth ≤ v) × (v < 2 * 2 ^ depth) × (v ≤ n) ⌝ }
-    ensures { λ r. ⌜ (r < 2 ^ 32 → at r ≡ under v (at above) (fetchedAt (levelsOf n (now (codes .entry)) (now (ends .entry))) (now (s .entry)) v)) ⌝ }
+    ensures { λ r. ⌜ timeTold v r ≡ timeFetched (levelsOf n (now (codes .entry)) (now (ends .entry))) (now (s .entry)) above v ⌝ }
 {
     let start = ends[depth];
     let end = ends[depth + 1];
     let code = codes[depth];
-    let index = v - power_of_two(depth);
-    if is_inside(code, end - start, index) {
-        return time_or_more(v, above, fetch_inside(&s[start..end], code, index));
+    let first = power_of_two(depth);
+    let count = least(n + 1 - first, first);
+    let found = codes::fetch(&s[start..end], code, count, v - first);
+    match found {
+        Found::Value(d) => time_under(v, above, d),
+        Found::Outside => OUTSIDE,
     }
-    LIMIT
 }
 
-// Opens node v of n, the time of which is read where it is known: `known` has the times of the first nodes.
-pub(crate) fn open_known<'a>(
-    known: &[u32],
+// As `open_full`, for the loops of the walks: `fetch_short` has most values of fixed codes. Where it says nothing it has read nothing of
+// the part, so a node's value is read by one fetch.
+pub(crate) fn open_node<'a>(
     s: &[u8],
-    ends: &'a [usize],
-    codes: &'a [u8],
+    ends: &'a [usize; 17],
+    codes: &'a [u8; 16],
     n: usize,
     depth: usize,
     v: usize,
     above: u32,
-) -> Opened
+) -> u64
     requires { ⌜ Fits (levelsOf n (now codes) (now ends)) (now s) ⌝ }
-    requires { ⌜ (length (now codes) ≡ 16) × (length (now ends) ≡ 17) ⌝ }
     requires { ⌜ (2 ^ depth ≤ v) × (v < 2 * 2 ^ depth) × (v ≤ n) ⌝ }
-    requires { ⌜ KnownTimes (levelsOf n (now codes) (now ends)) (now s) (now known) ⌝ }
-    requires { ⌜ timesIn (levelsOf n (now codes) (now ends)) (now s) (v / 2) ≡ at above ⌝ }
-    ensures { λ r. ⌜ timeOpened r ≡ under v (at above) (fetchedAt (levelsOf n (now (codes .entry)) (now (ends .entry))) (now (s .entry)) v) ⌝ }
+    ensures { λ r. ⌜ timeTold v r ≡ timeFetched (levelsOf n (now (codes .entry)) (now (ends .entry))) (now (s .entry)) above v ⌝ }
 {
-    if v <= known.len() {
-        return Opened::Time(known[v - 1]);
-    }
-    let short = short_time(s, ends, codes, n, depth, v, above);
+    let start = ends[depth];
+    let end = ends[depth + 1];
+    let code = codes[depth];
+    let short = fetch_short(&s[start..end], code, v - power_of_two(depth));
     if short < LIMIT {
-        return Opened::Time(short as u32);
+        return time_under(v, above, short as u32);
     }
-    open_at(s, ends, codes, n, depth, v, above)
+    open_full(s, ends, codes, n, depth, v, above)
 }

@@ -1,46 +1,38 @@
-// One target: from a node down, with the nodes left by their left side remembered.
-use super::nodes::Opened;
+// One target of a sweep: which remembered nodes it drops, and its way down.
+use super::nodes::LIMIT;
+use super::nodes::Levels;
 use super::nodes::Refusal;
-use super::nodes::open_known;
+use super::nodes::open_node;
+use super::nodes::refusal_of;
 use super::shape::child_of;
 use super::shape::height;
-use super::shape::missing_at;
 ghost use mathlib.Core.Path.{_≡_};
-ghost use Prim.Native.Nat.{_-_, _≤_};
-ghost use lib.ListN.{length};
-ghost use Rattle.tree.specs.Shape.{height, stretch};
-ghost use Rattle.tree.specs.Levels.{levelsOf, Fits};
-ghost use Rattle.tree.specs.Times.{timesIn};
-ghost use Rattle.tree.specs.Walks.{keptFrom, targetFrom};
-ghost use Rattle.tree.specs.Standing.{Stands};
-ghost use Rattle.tree.specs.Known.{KnownTimes};
-ghost use Rattle.tree.specs.Remembering.{remembered, entries, leftBy, answerBy, Resumes, Remembers};
+ghost use Prim.Native.Nat.{ℕ, _^_, _≤_, _<_};
+ghost use lib.ListN.{getD};
+ghost use Rattle.tree.specs.Levels.{Fits};
+ghost use Rattle.tree.specs.Remembering.{leftBy, GoesOn, resumedAt, Leaves};
 
 // The nodes left by their left side are remembered, the deepest last, with their times, in two arrays that the caller lends. There is at
 // most one on each level, so 16 entries are enough.
 
-// How a target ends: with the nodes opened in all, or why it stops.
-pub(crate) enum Ending {
-    Nodes(usize),
+// How far a sweep has come: how many nodes are remembered, the number that it goes on from with the time above it, and the nodes opened
+// in all. Between two targets that number is the missing child that the last one came to, which tells its position.
+pub(crate) struct Progress {
+    pub(crate) count: usize,
+    pub(crate) v: usize,
+    pub(crate) above: u32,
+    pub(crate) opened: usize,
+}
+
+// How a target ends.
+pub(crate) enum Walked {
+    To(Progress),
     Refused(Refusal),
 }
 
-// How many nodes a target leaves remembered, and its position, which mean something where it is not refused.
-pub(crate) struct Walked {
-    pub(crate) count: usize,
-    pub(crate) position: usize,
-    pub(crate) ending: Ending,
-}
-
-// Where a target goes on: node v and the time above it.
-pub(crate) struct Point {
-    pub(crate) v: usize,
-    pub(crate) above: u32,
-}
-
 // How many remembered nodes are left where they are dropped, from the deepest up, while their time is below the target.
-pub(crate) fn left_by(times: &[u32], count: usize, target: u32) -> usize
-    requires { ⌜ count ≤ length (now times) ⌝ }
+fn left_by(times: &[u32; 16], count: usize, target: u32) -> usize
+    requires { ⌜ count ≤ 16 ⌝ }
     ensures { λ r. ⌜ r ≡ leftBy (now (times .entry)) target count ⌝ }
 {
     let mut left = count;
@@ -53,50 +45,54 @@ pub(crate) fn left_by(times: &[u32], count: usize, target: u32) -> usize
     0
 }
 
-// Opens nodes from a point on: to the left child where a node's time is at or above the target, else to the right one, until no child.
-// `opened` nodes have been opened before. A later target goes mostly to the left, so its side is one branch, which is mostly foretold. The
-// missing child that it comes to stands just before the deepest remembered node, or at the end.
-pub(crate) fn go_down<'a>(
-    known: &[u32],
-    s: &[u8],
-    ends: &'a [usize],
-    codes: &'a [u8],
-    n: usize,
-    nodes: &mut [usize],
-    times: &mut [u32],
-    count: usize,
+// Where a target goes on: from the right child of the last node that it drops; where it drops none, from where the sweep is.
+pub(crate) fn resumed<'a>(
+    nodes: &'a [usize; 16],
+    times: &'a [u32; 16],
+    last: Progress,
     target: u32,
-    from: Point,
-    opened: usize,
-) -> Walked
-    requires { ⌜ Fits (levelsOf n (now codes) (now ends)) (now s) ⌝ }
-    requires { ⌜ (length (now codes) ≡ 16) × (length (now ends) ≡ 17) ⌝ }
-    requires { ⌜ KnownTimes (levelsOf n (now codes) (now ends)) (now s) (now known) ⌝ }
-    requires { ⌜ Stands (levelsOf n (now codes) (now ends)) (now s) (from .v) (height (from .v) - 1) (stretch n (from .v)) (from .above) ⌝ }
-    requires { ⌜ Resumes (levelsOf n (now codes) (now ends)) (now s) (remembered count (now nodes) (now times)) (from .v) opened ⌝ }
-    ensures { λ r. ⌜ answerBy (r .position) (r .ending) ≡ targetFrom n (timesIn (levelsOf n (now (codes .entry)) (now (ends .entry))) (now (s .entry))) target (entries (now (nodes .entry)) count) opened (from .v) ⌝ }
-    ensures { λ r. ⌜ Remembers (levelsOf n (now (codes .entry)) (now (ends .entry))) (now (s .entry)) (remembered (r .count) (now (nodes .exit)) (now (times .exit))) (r .position) (r .ending) (keptFrom n (timesIn (levelsOf n (now (codes .entry)) (now (ends .entry))) (now (s .entry))) target (entries (now (nodes .entry)) count) (from .v)) ⌝ }
+) -> Progress
+    requires { ⌜ (last .count ≤ 16) × ((i : ℕ) → i < last .count → getD (now nodes) i 0 < 2 ^ 63) ⌝ }
+    ensures { λ r. ⌜ r ≡ resumedAt (now (nodes .entry)) (now (times .entry)) last target ⌝ }
 {
-    let mut count = count;
+    let left = left_by(times, last.count, target);
+    if left == last.count {
+        return last;
+    }
+    Progress {
+        count: left,
+        v: child_of(nodes[left], true),
+        above: times[left],
+        opened: last.opened,
+    }
+}
+
+// Opens nodes: to the left child where a node's time is at or above the target, else to the right one, until no child. A later target goes
+// mostly to the left, so a branch on the side is mostly predicted.
+pub(crate) fn go_down(
+    s: &[u8],
+    levels: Levels,
+    nodes: &mut [usize; 16],
+    times: &mut [u32; 16],
+    from: Progress,
+    target: u32,
+) -> Walked
+    requires { ⌜ Fits levels (now s) × GoesOn levels (now s) (now nodes) (now times) from ⌝ }
+    ensures { λ r. ⌜ Leaves levels (now (s .entry)) target (now (nodes .entry)) from (now (nodes .exit)) (now (times .exit)) r ⌝ }
+{
+    let n = levels.pins;
+    let mut count = from.count;
     let mut v = from.v;
     let mut time = from.above;
-    let mut opened = opened;
+    let mut opened = from.opened;
     let mut depth = height(v) - 1;
     while v <= n {
         opened += 1;
-        let node = open_known(known, s, ends, codes, n, depth, v, time);
-        match node {
-            Opened::Time(t) => {
-                time = t;
-            }
-            Opened::Refused(r) => {
-                return Walked {
-                    count: count,
-                    position: n,
-                    ending: Ending::Refused(r),
-                };
-            }
+        let told = open_node(s, &levels.ends, &levels.codes, n, depth, v, time);
+        if told >= LIMIT {
+            return Walked::Refused(refusal_of(v, told));
         }
+        time = told as u32;
         if time < target {
             v = child_of(v, true);
         } else {
@@ -107,9 +103,10 @@ pub(crate) fn go_down<'a>(
         }
         depth += 1;
     }
-    Walked {
+    Walked::To(Progress {
         count: count,
-        position: missing_at(n, v),
-        ending: Ending::Nodes(opened),
-    }
+        v: v,
+        above: time,
+        opened: opened,
+    })
 }

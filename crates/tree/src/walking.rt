@@ -1,10 +1,9 @@
 // Access and search: walks from the root down.
 use super::nodes::LIMIT;
 use super::nodes::Levels;
-use super::nodes::Opened;
 use super::nodes::Refusal;
-use super::nodes::open_at;
-use super::nodes::short_time;
+use super::nodes::open_node;
+use super::nodes::refusal_of;
 use super::shape::child_of;
 use super::shape::height;
 use super::shape::missing_at;
@@ -43,20 +42,11 @@ pub fn access(s: &[u8], levels: Levels, i: usize) -> Accessed
         below -= 1;
         let v = goal >> below;
         nodes += 1;
-        let short = short_time(s, &levels.ends, &levels.codes, n, depth, v, time);
-        if short < LIMIT {
-            time = short as u32;
-        } else {
-            let opened = open_at(s, &levels.ends, &levels.codes, n, depth, v, time);
-            match opened {
-                Opened::Time(t) => {
-                    time = t;
-                }
-                Opened::Refused(r) => {
-                    return Accessed::Refused(r);
-                }
-            }
+        let told = open_node(s, &levels.ends, &levels.codes, n, depth, v, time);
+        if told >= LIMIT {
+            return Accessed::Refused(refusal_of(v, told));
         }
+        time = told as u32;
         depth += 1;
     }
     Accessed::Time(time, nodes)
@@ -75,20 +65,11 @@ pub fn search(s: &[u8], levels: Levels, target: u32) -> Searched
     let mut nodes: usize = 0;
     while v <= n {
         nodes += 1;
-        let short = short_time(s, &levels.ends, &levels.codes, n, depth, v, time);
-        if short < LIMIT {
-            time = short as u32;
-        } else {
-            let opened = open_at(s, &levels.ends, &levels.codes, n, depth, v, time);
-            match opened {
-                Opened::Time(t) => {
-                    time = t;
-                }
-                Opened::Refused(r) => {
-                    return Searched::Refused(r);
-                }
-            }
+        let told = open_node(s, &levels.ends, &levels.codes, n, depth, v, time);
+        if told >= LIMIT {
+            return Searched::Refused(refusal_of(v, told));
         }
+        time = told as u32;
         v = child_of(v, time < target);
         depth += 1;
     }

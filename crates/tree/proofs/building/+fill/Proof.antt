@@ -1,4 +1,4 @@
--- `fill` meets its contract.
+-- The node's entry, then those of its left and of its right side, are the entries of its stretch; each side has fewer pins.
 use native.Mathlib.Omega.{arith}
 use Rattle.tree.proofs.shape.root_place.Kinds as root-place-kinds
 use Rattle.tree.proofs.shape.root_place.Reads as root-place-reads

@@ -1,4 +1,4 @@
--- `construct` meets its contract.
+-- From the root on `fill` fills the entries of all nodes.
 use native.Mathlib.Omega.{arith}
 use lib.ListN.{length}
 use Rattle.tree.proofs.Stretches.{stretch-root}

@@ -1,4 +1,4 @@
--- `fill_few` meets its contract.
+-- With at most three pins the children have no children, and each node's time stands where the stretch says.
 use native.Mathlib.Omega.{arith}
 use mathlib.Core.Path.{refl, sym, _∙_}
 use mathlib.Core.Bool.{true, false}
@@ -7,7 +7,7 @@ use lib.ListN.{length}
 use Rattle.tree.specs.Shape.{childOf}
 use Rattle.tree.specs.Standing.{StretchIs}
 use Rattle.tree.proofs.Stretches.{few-side}
-use Rattle.tree.proofs.Fills.{filled-none, filled-node, filled-leaf, fill-past, fill-node, fill-leaf, one-time, few-time, above-side}
+use Rattle.tree.proofs.Fills.{filled-node, filled-past, filled-leaf, fill-node, one-time, few-time, above-side}
 use borrow.Author.Needs.{needs}
 use Rattle.tree.proofs.building.fill_few.Statement.{statement}
 use Rattle.tree.proofs.building.fill_few.Tie as tie
@@ -16,7 +16,7 @@ returns : tie.Need-returns
 returns c =
     let a = c .before .before .before .args in
     let p = c .before .before .before .pre .1 in
-    filled-none (a .times .now) (a .v) (a .values .now) (fill-past (a .times .now) (p .0 .1) (p .1 .0) (c .if1 .taken))
+    filled-past (a .times .now) (p .0 .1) (p .1 .0) (c .if1 .taken) (a .values .now)
 
 fill-node-requires : tie.Need-fill-node-requires
 fill-node-requires c κs =
@@ -32,8 +32,7 @@ returns-2 : tie.Need-returns-2
 returns-2 c =
     let a = c .before .before .before .before .before .before .before .before .args in
     let p = c .before .before .before .before .before .before .before .before .pre .1 in
-    let k = fill-node (a .times .now) (p .0 .1) (p .1 .0) (omega arith) in
-    filled-leaf (a .times .now) (a .v) (a .values .now) (c .before .before .fill-node .last .0) (p .0 .1) k (omega (arith, k)) (c .before .before .fill-node .ensures .1) (fill-leaf (a .times .now) (p .0 .1) (p .1 .0) (omega arith))
+    filled-leaf (a .times .now) (p .0 .1) (p .1 .0) (omega arith) (p .0 .0) (c .before .before .fill-node .ensures .1)
 
 add-fill-node : tie.Need-add-fill-node
 add-fill-node c = search needs
@@ -97,11 +96,9 @@ returns-3 c =
     let r = right (c .before .before .before .before .before .before .before .before .before .before .before) in
     let first = c .before .before .before .before .before .before .before .before .before .before .before .fill-node2 .last .0 in
     let second = c .before .before .before .before .before .before .before .fill-node3 .last .0 in
-    let kl = fill-node (a .times .now) (omega (arith, p .0 .1)) l (omega arith) in
-    let filled = filled-leaf (a .times .now) (2 * a .v) first second (omega (arith, p .0 .1)) kl (omega (arith, kl)) (c .before .before .before .before .before .before .before .fill-node3 .ensures .1) (fill-leaf (a .times .now) (omega (arith, p .0 .1)) l refl) in
-    let kr = fill-node (a .times .now) (omega arith) r (omega arith) in
-    filled-node (a .times .now) (a .v) (a .values .now) first second (c .before .before .fill-node4 .last .0) (p .0 .1) k (omega (arith, k)) (c .before .before .before .before .before .before .before .before .before .before .before .fill-node2 .ensures .1) filled
-    (filled-leaf (a .times .now) (2 * a .v + 1) second (c .before .before .fill-node4 .last .0) (omega arith) kr (omega (arith, kr)) (c .before .before .fill-node4 .ensures .1) (fill-leaf (a .times .now) (omega arith) r (omega arith)))
+    filled-node (a .times .now) (a .v) (a .values .now) first second (c .before .before .fill-node4 .last .0) (p .0 .1) k (omega (arith, k)) (c .before .before .before .before .before .before .before .before .before .before .before .fill-node2 .ensures .1)
+    (filled-leaf (a .times .now) (omega (arith, p .0 .1)) l refl (omega (arith, p .0 .0)) (c .before .before .before .before .before .before .before .fill-node3 .ensures .1))
+    (filled-leaf (a .times .now) (omega arith) r (omega arith) (omega (arith, p .0 .0)) (c .before .before .fill-node4 .ensures .1))
 
 same-length-3 : tie.Need-same-length-3
 same-length-3 c = search needs
@@ -115,10 +112,8 @@ returns-4 c =
     let r = right (c .before .before .before .before .before .before .before) in
     let first = c .before .before .before .before .before .before .before .fill-node2 .last .0 in
     let second = c .before .before .before .fill-node3 .last .0 in
-    let kl = fill-node (a .times .now) (omega (arith, p .0 .1)) l (omega arith) in
-    let filled = filled-leaf (a .times .now) (2 * a .v) first second (omega (arith, p .0 .1)) kl (omega (arith, kl)) (c .before .before .before .fill-node3 .ensures .1) (fill-leaf (a .times .now) (omega (arith, p .0 .1)) l refl) in
-    filled-node (a .times .now) (a .v) (a .values .now) first second second (p .0 .1) k (omega (arith, k)) (c .before .before .before .before .before .before .before .fill-node2 .ensures .1) filled
-    (filled-none (a .times .now) (2 * a .v + 1) second (fill-past (a .times .now) (omega arith) r (omega arith)))
+    filled-node (a .times .now) (a .v) (a .values .now) first second second (p .0 .1) k (omega (arith, k)) (c .before .before .before .before .before .before .before .fill-node2 .ensures .1)
+    (filled-leaf (a .times .now) (omega (arith, p .0 .1)) l refl (omega (arith, p .0 .0)) (c .before .before .before .fill-node3 .ensures .1)) (filled-past (a .times .now) (omega arith) r (omega arith) second)
 
 pub fill-few-spec : {M : Type 1} → statement M
 fill-few-spec =

@@ -1,4 +1,4 @@
--- `fill_node` meets its contract.
+-- In an ordered list a left child's time is at most its parent's and a right child's at least, so that the difference is what the node stores.
 use mathlib.Core.Path.{ap, _∙_}
 use Prim.Native.Nat.{_-_}
 use lib.ListN.{set}

@@ -1,11 +1,11 @@
--- `level_values` meets its contract.
+-- The part from the first to the last node of the level has as many values as the level has nodes.
 use native.Mathlib.Omega.{arith}
 use mathlib.Core.Path.{_≡_}
-use Prim.Native.Nat.{ℕ, suc, _-_, _*_, _^_, _≤_, min}
+use Prim.Native.Nat.{suc, _-_}
 use lib.ListN.{length}
 use lib.Pow.{pow-pos}
 use borrow.Author.Needs.{needs}
-use Rattle.tree.specs.Levels.{firstOf, countOf}
+use Rattle.tree.proofs.NodeFetches.{count-between}
 use Rattle.tree.proofs.Heights.{level-starts, height-le}
 use Rattle.tree.proofs.building.level_values.Statement.{statement}
 use Rattle.tree.proofs.building.level_values.Tie as tie
@@ -43,22 +43,13 @@ part-result-start c =
 part-result-end : tie.Need-part-result-end
 part-result-end c = search needs
 
--- a level's end less what stands before it is its count
-between : (n l end first : ℕ) → 1 ≤ l → first ≡ firstOf l → end ≡ min n (2 * first - 1) → end - (first - 1) ≡ countOf n l
-between n (suc k) end first h p q =
-    let e : suc k - 1 ≡ k = omega arith in
-    let r : 2 ^ suc k ≡ 2 * 2 ^ k = omega arith in
-    rw (q, p, e, r) (less (min n (2 * 2 ^ k - 1)) (2 ^ k) (pow-pos k))
-  where
-    less : (m p : ℕ) → 1 ≤ p → m - (p - 1) ≡ suc m - p
-    less m p h = omega arith
-
 returns : tie.Need-returns
 returns c =
     let a = c .before .before .before .before .args in
     let end = c .before .least in
     let first = c .before .before .power-of-two in
-    rw (between (length (a .values .now)) (a .level) (end .result) (first .result) (c .before .before .before .before .pre .0) (first .ensures) (end .ensures), first .ensures)
+    let e : suc (a .level - 1) ≡ a .level = omega arith in
+    rw (rw e at (count-between (length (a .values .now)) (a .level - 1) (first .result) (end .result) (first .ensures) (end .ensures)), first .ensures)
 
 pub level-values-spec : {M : Type 1} → statement M
 level-values-spec =

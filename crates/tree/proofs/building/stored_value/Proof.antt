@@ -1,4 +1,4 @@
--- `stored_value` meets its contract.
+-- The difference is taken from the greater time, by the side that v stands on.
 use native.Mathlib.Omega.{arith}
 use Prim.Native.Nat.{_%_}
 use borrow.Author.Tests.{ne-eqb}

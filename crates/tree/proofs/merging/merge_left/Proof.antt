@@ -1,4 +1,4 @@
--- `merge_left` meets its contract.
+-- The entry is the parent's time less what the node stores; the entry before it is moved up, where there is one.
 use native.Mathlib.Omega.{arith}
 use mathlib.Core.Bool.{false≢true}
 use lib.ListN.{length-set}

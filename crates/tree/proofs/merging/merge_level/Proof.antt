@@ -1,4 +1,4 @@
--- `merge_level` meets its contract.
+-- With the entries behind all nodes moved up, the pairs of children are merged, after the last left child where it has no sibling.
 use native.Mathlib.Omega.{arith}
 use mathlib.Core.Path.{_≡_, refl}
 use mathlib.Core.Bool.{false≢true}

@@ -1,13 +1,12 @@
--- `merge_levels` meets its contract.
+-- The root stores its time, and each turn puts one more level between the entries of those above it.
 use native.Mathlib.Omega.{arith}
 use mathlib.Core.Path.{_≡_, refl, _∙_}
 use mathlib.Core.Bool.{false≢true}
-use mathlib.Core.List.{List}
 use Prim.Native.Nat.{ℕ, _+_, _-_, _*_, _≤_, _<_}
-use lib.ListN.{length, take, drop, getD, set, length-set, length-drop}
-use lib.Seq.{length-take-le, getD-set-same}
+use lib.ListN.{length, getD, set, length-set}
+use lib.Seq.{getD-set-same}
 use borrow.Author.Tests.{not-false}
-use Rattle.tree.proofs.LevelMerges.{Grown, grown-root, first-odd, grown-next, grown-all, merged-none}
+use Rattle.tree.proofs.LevelMerges.{span-length, Grown, grown-root, first-odd, grown-next, grown-all, merged-none}
 use Rattle.tree.proofs.merging.merge_levels.Statement.{statement}
 use Rattle.tree.proofs.merging.merge_levels.Tie as tie
 
@@ -67,15 +66,11 @@ part-merge-level-end c = omega arith
 sub-merge-level-3 : tie.Need-sub-merge-level-3 Inv-loop μ-loop
 sub-merge-level-3 c = omega arith
 
--- how many nodes the level has
-part : (first last : ℕ) (values : List ℕ) → first ≤ last + 1 → last ≤ length values → length (take (last - (first - 1)) (drop (first - 1) values)) ≡ last - (first - 1)
-part first last values h k = length-take-le (last - (first - 1)) (drop (first - 1) values) (rw length-drop (omega arith))
-
 merge-level-requires : tie.Need-merge-level-requires Inv-loop μ-loop
 merge-level-requires c κs =
     let l = c .before .before .before .before .loop in
     let n : c .before .before .least .result ≤ length (c .before .before .before .before .before .before .before .before .before .args .values .now) = omega arith in
-    rw (part (l .first) (c .before .before .least .result) (c .before .before .before .before .before .before .before .before .before .args .values .now) (omega arith) n) (omega arith, omega arith, omega arith, first-odd _ _ (l .first) (l .times) (l .inv .5))
+    rw (span-length (l .first) (c .before .before .least .result) (c .before .before .before .before .before .before .before .before .before .args .values .now) n) (omega arith, omega arith, omega arith, first-odd _ _ (l .first) (l .times) (l .inv .5))
 
 same-length : tie.Need-same-length Inv-loop μ-loop
 same-length c = c .before .before .before .merge-level .kept .0 ∙ c .before .before .before .before .before .before .before .before .loop .inv .5 .kept ∙ simp length-set

@@ -1,4 +1,4 @@
--- `merge_pair` meets its contract.
+-- The right child is merged first, at the sum, and then the left one by `merge_left`.
 use native.Mathlib.Omega.{arith}
 use mathlib.Core.Path.{_∙_}
 use mathlib.Core.Bool.{false≢true}

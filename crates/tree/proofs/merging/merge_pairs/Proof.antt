@@ -1,4 +1,4 @@
--- `merge_pairs` meets its contract.
+-- The turns from the last pair to the first merge one pair each, and merges go one after the other.
 use native.Mathlib.Omega.{arith}
 use mathlib.Core.Path.{_≡_, refl, _∙_}
 use mathlib.Core.Bool.{false≢true}

@@ -1,4 +1,4 @@
--- `move_up` meets its contract.
+-- A turn moves one entry up; the entries below are as they were.
 use native.Mathlib.Omega.{arith}
 use Rattle.tree.proofs.LevelMerges.{MovedUp, moved-none, moved-next, moved-all}
 use Rattle.tree.proofs.merging.move_up.Statement.{statement}

@@ -1,71 +1,98 @@
--- `open_node` meets its contract.
-use mathlib.Core.Path.{_≡_, sym, ap, _∙_}
-use mathlib.Core.List.{List}
-use Prim.Native.Nat.{ℕ, _+_, _-_, _^_, min}
+-- Where the short fetch has a value it is the node's, by any count; else `open_full` opens the node.
 use native.Mathlib.Omega.{arith}
-use Rattle.codes.specs.Fetch.{found, fetched}
+use mathlib.Core.Path.{sym, ap, _∙_}
+use lib.ListN.{length-take}
+use Rattle.codes.specs.Fetch.{value}
+use Rattle.codes.proofs.Promises.{short-fetches}
+use Rattle.tree.specs.Levels.{levelsOf}
 use Rattle.tree.specs.Times.{at, under}
-use Rattle.tree.proofs.Heights.{height-above, height-le}
+use Rattle.tree.proofs.NodeFetches.{fetched-from, Level, level-fits}
 use borrow.Author.Needs.{needs}
 use Rattle.tree.proofs.nodes.open_node.Statement.{statement}
 use Rattle.tree.proofs.nodes.open_node.Tie as tie
 
--- the fetch of the code, by the number of levels above the node
-same-fetch : (code n depth v first count : ℕ) (part : List ℕ) → first ≡ 2 ^ depth → count ≡ min (n + 1 - first) first
-    → fetched code (min (n + 1 - 2 ^ depth) (2 ^ depth)) (v - 2 ^ depth) part ≡ fetched code count (v - first) part
-same-fetch code n depth v first count part e k = rw (k, e)
+-- the node's level lies in the bytes
+level : (c : tie.Start) → Level (levelsOf (c .args .n) (c .args .codes .now) (c .args .ends .now)) (c .args .s .now) (c .args .depth)
+level c = level-fits (c .pre .0) (c .pre .1 .0) (c .pre .1 .2)
+
+mul-start : tie.Need-mul-start
+mul-start c = omega (arith, level (c .before))
+
+element-copy-out-start : tie.Need-element-copy-out-start
+element-copy-out-start c = omega (arith, level (c .before))
+
+add-end : tie.Need-add-end
+add-end c = omega (arith, level (c .before .before))
+
+mul-end : tie.Need-mul-end
+mul-end c = omega (arith, level (c .before .before))
+
+element-copy-out-end : tie.Need-element-copy-out-end
+element-copy-out-end c = omega (arith, level (c .before .before))
+
+element-copy-out-code : tie.Need-element-copy-out-code
+element-copy-out-code c = omega (arith, level (c .before .before .before))
+
+sub-fetch-short : tie.Need-sub-fetch-short
+sub-fetch-short c = omega (arith, level (c .before .before .before .before))
+
+part-fetch-short-start : tie.Need-part-fetch-short-start
+part-fetch-short-start c = omega (arith, level (c .before .before .before .before))
+
+part-fetch-short-end : tie.Need-part-fetch-short-end
+part-fetch-short-end c = omega (arith, level (c .before .before .before .before))
 
 power-of-two-requires : tie.Need-power-of-two-requires
-power-of-two-requires c κs = omega (arith, height-above (c .before .args .n) (c .before .args .depth) (omega arith), height-le (c .before .args .n) 63 (omega arith))
+power-of-two-requires c κs = omega (arith, level (c .before .before .before .before .before))
 
-add-least : tie.Need-add-least
-add-least c = search needs
+sub-fetch-short-2 : tie.Need-sub-fetch-short-2
+sub-fetch-short-2 c = search needs
 
-sub-least : tie.Need-sub-least
-sub-least c = search needs
+fetch-short-requires : tie.Need-fetch-short-requires
+fetch-short-requires c κs =
+    let l = level (c .before .before .before .before .before .before) in
+    (omega arith, simp length-take (omega arith))
 
-least-requires : tie.Need-least-requires
-least-requires c κs = search needs
-
-sub-fetch : tie.Need-sub-fetch
-sub-fetch c = search needs
-
-fetch-requires : tie.Need-fetch-requires
-fetch-requires c κs = search needs
-
-enum-known-found : tie.Need-enum-known-found
-enum-known-found c = search needs
+cast-time-under : tie.Need-cast-time-under
+cast-time-under c = search needs
 
 time-under-requires : tie.Need-time-under-requires
 time-under-requires c κs = search needs
 
-enum-told : tie.Need-enum-told
-enum-told c = search needs
-
 returns : tie.Need-returns
 returns c =
-    let a = c .before .before .before .before .before .before .before .before .args in
-    let s = same-fetch (a .code) (a .n) (a .depth) (a .v) (c .before .before .before .before .before .before .power-of-two .result) (c .before .before .before .before .before .least .result) (a .part .now) (c .before .before .before .before .before .before .power-of-two .ensures) (c .before .before .before .before .before .least .ensures) in
-    c .time-under .ensures ∙ ap (under (a .v) (at (a .above))) (sym (s ∙ sym (c .before .before .before .before .fetch .ensures) ∙ ap found (c .before .before .found .given .1)))
+    let a = c .before .before .before .before .before .before .before .before .before .args in
+    let p = c .before .before .before .before .before .before .before .before .before .pre .1 in
+    let short = c .before .before .fetch-short .ensures in
+    c .time-under .ensures
+    ∙ ap (under (a .v) (at (a .above)))
+    (ap value short ∙ sym (short-fetches _ _ _ _ (rw (← short) (c .before .if1 .taken)))
+    ∙ sym (fetched-from (levelsOf (a .n) (a .codes .now) (a .ends .now)) (a .s .now) (a .depth) (a .v) _ (c .before .before .before .power-of-two .ensures) (p .0) (p .1)))
+
+open-full-requires : tie.Need-open-full-requires
+open-full-requires c κs = search needs
 
 returns-2 : tie.Need-returns-2
-returns-2 c =
-    let a = c .before .before .before .before .before .before .args in
-    let s = same-fetch (a .code) (a .n) (a .depth) (a .v) (c .before .before .before .before .power-of-two .result) (c .before .before .before .least .result) (a .part .now) (c .before .before .before .before .power-of-two .ensures) (c .before .before .before .least .ensures) in
-    ap (under (a .v) (at (a .above))) (sym (s ∙ sym (c .before .before .fetch .ensures) ∙ ap found (c .enum-told .given .1)))
+returns-2 c = search needs
 
 pub open-node-spec : {M : Type 1} → statement M
 open-node-spec =
     tie.close
     (tie.spec
+    mul-start
+    element-copy-out-start
+    add-end
+    mul-end
+    element-copy-out-end
+    element-copy-out-code
+    sub-fetch-short
+    part-fetch-short-start
+    part-fetch-short-end
     power-of-two-requires
-    add-least
-    sub-least
-    least-requires
-    sub-fetch
-    fetch-requires
-    enum-known-found
+    sub-fetch-short-2
+    fetch-short-requires
+    cast-time-under
     time-under-requires
-    enum-told
     returns
+    open-full-requires
     returns-2)

@@ -1,4 +1,4 @@
--- `rank_under` meets its contract.
+-- Down one digit of v, the stretch of a node becomes that of its child on the side that the digit tells; at depth 0 the node is v itself.
 use native.Mathlib.Omega.{arith}
 use Rattle.tree.proofs.shape.root_place.Kinds as root-place-kinds
 use Rattle.tree.proofs.shape.root_place.Reads as root-place-reads

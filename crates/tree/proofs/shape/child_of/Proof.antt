@@ -1,4 +1,4 @@
--- `child_of` meets its contract.
+-- The two numbers are those of the definition.
 use Rattle.tree.specs.Shape.{childOf}
 use borrow.Author.Needs.{needs}
 use Rattle.tree.proofs.shape.child_of.Statement.{statement}

@@ -1,4 +1,4 @@
--- `height` meets its contract.
+-- The number of bits up to the highest one bit is the only number that bounds n as the height does.
 use native.Mathlib.Omega.{arith}
 use lib.Count.{leading-le, leading-length}
 use borrow.Author.Needs.{needs}

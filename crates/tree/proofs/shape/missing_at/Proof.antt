@@ -1,4 +1,4 @@
--- `missing_at` meets its contract.
+-- The closed forms of where a missing child's stretch starts, on the last level and below it.
 use native.Mathlib.Omega.{arith}
 use mathlib.Core.Path.{_≡_, ap, _∙_}
 use Prim.Native.Nat.{ℕ, _^_}

@@ -1,4 +1,4 @@
--- `node_of` meets its contract.
+-- The place in the full tree of the same height, with its zeros below the lowest one bit, says the level and the node on it; the closed form of the ranks says that it is the node of rank i.
 use native.Mathlib.Omega.{arith}
 use mathlib.Core.Path.{_≡_, ap, _∙_}
 use mathlib.Core.Logic.{⊎-elim}

@@ -1,4 +1,4 @@
--- `power_of_two` meets its contract.
+-- A 1 shifted by less than 64 loses no bit.
 use native.Mathlib.Omega.{arith}
 use lib.Pow.{shl-exact}
 use borrow.Author.Needs.{needs}

@@ -1,4 +1,4 @@
--- `rank` meets its contract.
+-- The highest digit of v is the root, whose stretch is the whole list; `rank_under` goes down from there.
 use mathlib.Core.Path.{_≡_, ap}
 use Prim.Native.Nat.{_-_, _/_, _^_}
 use native.Mathlib.Omega.{arith}

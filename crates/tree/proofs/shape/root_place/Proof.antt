@@ -1,4 +1,4 @@
--- `root_place` meets its contract.
+-- Half of the last level's greatest count decides between the two cases of the definition.
 use native.Mathlib.Omega.{arith}
 use lib.Pow.{pow-mono}
 use Rattle.tree.proofs.Heights.{Half, half-of, height-le, place-small}

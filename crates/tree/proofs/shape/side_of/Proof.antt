@@ -1,4 +1,4 @@
--- `side_of` meets its contract.
+-- The place of the root is in its stretch, so that no subtraction goes below 0; the two sides are those of the definition.
 use native.Mathlib.Omega.{arith}
 use Rattle.tree.proofs.Heights.{place-in}
 use Rattle.tree.proofs.shape.side_of.Statement.{statement}

@@ -1,196 +1,134 @@
--- `go_down` meets its contract.
+-- Each turn opens the node where the target stands and comes to the child that the comparison tells; the target answers as before.
 use native.Mathlib.Omega.{arith}
-use mathlib.Core.Bool.{cond}
+use mathlib.Core.Path.{_≡_, refl, sym, subst, _∙_}
 use mathlib.Core.Logic.{⊎-elim}
-use mathlib.Core.Path.{_≡_, refl, sym, ap, _∙_}
-use mathlib.Core.List.{List}
-use Prim.Native.Nat.{ℕ, suc, _+_, _-_, _<_}
-use borrow.Author.Tests.{lt-ltb, le-ltb}
-use borrow.Author.Needs.{needs}
-use lib.Dec.{ltb}
-use lib.ListN.{length}
-use Rattle.tree.specs.declared.nodes.Levels.{Levels}
-use Rattle.tree.specs.Times.{at, timesIn}
-use Rattle.tree.specs.Shape.{childOf, stretch}
-use Rattle.tree.specs.Levels.{levelsOf}
-use Rattle.tree.specs.Walks.{found, keptFrom, targetFrom}
+use mathlib.Core.Bool.{Bool, true, false}
+use Prim.Native.Nat.{ℕ, suc, _+_, _-_, _≤_, _<_}
+use Rattle.tree.specs.declared.targets.Progress.{Progress}
+use Rattle.tree.specs.Shape.{height, childOf, stretch}
+use Rattle.tree.specs.Times.{timesIn}
 use Rattle.tree.specs.Standing.{Stands}
-use Rattle.tree.specs.Remembering.{Remembered, remembered, entries, keptIn, positionBy, Resumes, Rests}
+use Rattle.tree.specs.Remembering.{entries, Comes}
 use Rattle.tree.proofs.Heights.{height-above}
-use Rattle.tree.proofs.Stretches.{stretch-child}
-use Rattle.tree.proofs.NodeFetches.{Level, pins-bound}
-use Rattle.tree.proofs.Walks.{child-bounds}
-use Rattle.tree.proofs.Steps.{stands-end, stands-level, stands-opened, stands-child, kept-end, target-end, target-refused, kept-step, target-step}
-use Rattle.tree.proofs.Remembering.{keeps-few, count-under-16, withNode, added, resumes-child, kept-child}
+use Rattle.tree.proofs.NodeFetches.{Level}
+use Rattle.tree.proofs.Walks.{child-bounds, height-child}
+use Rattle.tree.proofs.Steps.{stands-level, stands-told, stands-time, target-refused}
+use Rattle.tree.proofs.Remembering.{count-under, comes-right, comes-left}
 use Rattle.tree.proofs.targets.go_down.Statement.{statement}
 use Rattle.tree.proofs.targets.go_down.Tie as tie
 
 abbrev Inv-loop : tie.InvT-loop
-Inv-loop known s ends codes n nodes₀ times₀ count target opened count₀ v₀ time₀ opened₀ depth₀ nodes times count' v' time opened' depth =
-    let levels = levelsOf n codes ends in
-    let read = timesIn levels s in
-    Stands levels s v' depth (stretch n v') time × Resumes levels s (remembered count' nodes times) v' opened'
-    × (targetFrom n read target (entries nodes count') opened' v' ≡ targetFrom n read target (entries nodes₀ count₀) opened₀ v₀)
-    × (keptFrom n read target (entries nodes count') v' ≡ keptFrom n read target (entries nodes₀ count₀) v₀)
+Inv-loop s nodes₀ times₀ target levels n count₀ v₀ time₀ opened₀ depth₀ nodes times count v time opened depth =
+    let from : Progress = record { count = count₀; v = v₀; above = time₀; opened = opened₀ } in
+    Comes levels s target nodes₀ from nodes times (record { count = count; v = v; above = time; opened = opened }) × (depth ≡ height v - 1)
 
 abbrev μ-loop : tie.MeasureT-loop
-μ-loop known s ends codes n nodes₀ times₀ count target opened count₀ v₀ time₀ opened₀ depth₀ nodes times count' v' time opened' depth = suc n - v'
+μ-loop s nodes₀ times₀ target levels n count₀ v₀ time₀ opened₀ depth₀ nodes times count v time opened depth = suc (levels .pins) - v
 
 height-requires : tie.Need-height-requires Inv-loop μ-loop
 height-requires c κs = tt
 
 sub-depth : tie.Need-sub-depth Inv-loop μ-loop
-sub-depth c = omega (arith, c .height .ensures, height-above (c .before .before .before .before .before .before .before .args .from .v) 0 (c .before .before .before .before .before .before .before .pre .1 .1 .1 .0 .one))
+sub-depth c = let e = c .before .before in omega (arith, c .height .ensures, height-above (e .args .from .v) 0 (e .pre .1 .place .stands .one))
 
 loop-holds : tie.Need-loop-holds Inv-loop μ-loop
-loop-holds c = let p = c .before .before .before .before .before .before .before .pre .1 .1 .1 in rw (c .height .ensures) (p .0, p .1, refl, refl)
+loop-holds c = (record { goes = c .before .before .pre .1; answer = refl; kept = refl }, omega (arith, c .height .ensures))
 
 abbrev start : tie.At-loop Inv-loop μ-loop → tie.Start Inv-loop μ-loop
-start c = c .before .before .before .before .before .before .before .before
+start c = c .before .before .before
 
-abbrev levels : tie.At-loop Inv-loop μ-loop → Levels
-levels c = let a = start c .args in levelsOf (a .n) (a .codes .now) (a .ends .now)
-
-abbrev kept : tie.At-loop Inv-loop μ-loop → Remembered
-kept c = remembered (c .loop .count) (c .loop .nodes) (c .loop .times)
+-- where it stands, by the loop's own depth
+stands : (c : tie.At-loop Inv-loop μ-loop) → let a = start c .args in let l = c .loop in Stands (a .t2) (a .s .now) (l .v) (l .depth) (stretch (a .t2 .pins) (l .v)) (l .time)
+stands c =
+    let a = start c .args in
+    let l = c .loop in
+    subst (λ (d : ℕ). Stands (a .t2) (a .s .now) (l .v) d (stretch (a .t2 .pins) (l .v)) (l .time)) (sym (l .inv .1)) (l .inv .0 .goes .place .stands)
 
 -- the node's level lies in the bytes
-level : (c : tie.In-loop Inv-loop μ-loop) → Level (levels (c .before)) (start (c .before) .args .s .now) (c .before .loop .depth)
-level c = stands-level (c .before .loop .inv .0) (start (c .before) .pre .0) (omega arith)
+level : (c : tie.In-loop Inv-loop μ-loop) → let a = start (c .before) .args in Level (a .t2) (a .s .now) (c .before .loop .depth)
+level c = stands-level (stands (c .before)) (start (c .before) .pre .0) (omega arith)
 
 -- one more node can be remembered
 few : (c : tie.In-loop Inv-loop μ-loop) → c .before .loop .count < 16
-few c = count-under-16 (c .before .loop .inv .0) (c .before .loop .inv .1) (omega arith) (start (c .before) .pre .0)
-
--- the node's time
-time-is : (c : tie.After-node Inv-loop μ-loop) → timesIn (levels (c .before .before .before .before)) (start (c .before .before .before .before) .args .s .now) (c .before .before .before .before .loop .v) ≡ at (c .node .given .0 .0)
-time-is c = stands-opened (c .before .before .before .before .loop .inv .0) (c .before .before .open-known .ensures) (c .node .given .1)
-
--- the arrays keep their length
-same : (c : tie.At-loop Inv-loop μ-loop) → let a = start c .args in (length (c .loop .nodes) ≡ length (a .nodes .now)) × (length (c .loop .times) ≡ length (a .times .now))
-same c =
-    let k = c .loop .inv .1 .keeps in
-    let k₀ = start c .pre .1 .1 .1 .1 .keeps in
-    (k .nodes-size ∙ sym (k₀ .nodes-size), k .times-size ∙ sym (k₀ .times-size))
+few c = count-under (c .before .loop .inv .0 .goes) (start (c .before) .pre .0) (c .loop-test .taken)
 
 add-opened : tie.Need-add-opened Inv-loop μ-loop
 add-opened c =
-    let l = c .before .loop in
-    omega (arith, level c, l .inv .0 .inside, l .inv .1 .few, keeps-few (levels (c .before)) (start (c .before) .args .s .now) (kept (c .before)) (start (c .before) .pre .0) (l .inv .1 .keeps))
+    let g = c .before .loop .inv .0 .goes in
+    omega (arith, level c, g .few, g .place .stands .inside, few c)
 
-open-known-requires : tie.Need-open-known-requires Inv-loop μ-loop
-open-known-requires c κs =
-    let w = c .before .loop .inv .0 in
-    let p = start (c .before) .pre in
-    (p .0, (p .1 .0, ((w .low, w .high, omega arith), (p .1 .1 .0, w .parent))))
+open-node-requires : tie.Need-open-node-requires Inv-loop μ-loop
+open-node-requires c κs = let w = stands (c .before .before .before .before) in (start (c .before .before .before .before) .pre .0, (w .low, w .high, c .before .before .before .loop-test .taken))
 
-enum-known-node : tie.Need-enum-known-node Inv-loop μ-loop
-enum-known-node c = search needs
-
-enum-known-node-2 : tie.Need-enum-known-node-2 Inv-loop μ-loop
-enum-known-node-2 c = search needs
-
-same-length : tie.Need-same-length Inv-loop μ-loop
-same-length c = same (c .before .before .before .before .before) .0
-
-same-length-2 : tie.Need-same-length-2 Inv-loop μ-loop
-same-length-2 c = same (c .before .before .before .before .before) .1
+refusal-of-requires : tie.Need-refusal-of-requires Inv-loop μ-loop
+refusal-of-requires c κs = omega arith
 
 returns : tie.Need-returns Inv-loop μ-loop
 returns c =
-    let a = start (c .before .before .before .before .before) .args in
-    let l = c .before .before .before .before .before .loop in
-    let e = stands-opened (l .inv .0) (c .before .before .before .open-known .ensures) (c .before .node2 .given .1) in
-    (sym (target-refused (a .n) (timesIn (levels (c .before .before .before .before .before)) (a .s .now)) (a .target) (entries (l .nodes) (l .count)) (l .opened) (l .v) _ _ (l .inv .0 .one) (omega arith) e) ∙ l .inv .2, tt)
+    let at-loop = c .before .before .before .before .before .before .before in
+    let a = start at-loop .args in
+    let l = at-loop .loop in
+    let e = stands-told (stands at-loop) (c .before .before .open-node .result) (c .before .before .open-node .ensures) ∙ sym (c .refusal-of .ensures) in
+    sym (l .inv .0 .answer) ∙ target-refused (a .t2 .pins) (timesIn (a .t2) (a .s .now)) (a .target) (entries (l .nodes) (l .count)) (l .opened) (l .v) _ _ (stands at-loop .one) (c .before .before .before .before .before .before .loop-test .taken) e
+
+cast-time : tie.Need-cast-time Inv-loop μ-loop
+cast-time c = omega arith
 
 child-of-requires : tie.Need-child-of-requires Inv-loop μ-loop
-child-of-requires c κs = omega (arith, level (c .before .before .before .before .before))
+child-of-requires c κs = omega (arith, level (c .before .before .before .before .before .before))
 
 mul-nodes : tie.Need-mul-nodes Inv-loop μ-loop
-mul-nodes c = omega (arith, few (c .before .before .before .before .before))
+mul-nodes c = omega (arith, few (c .before .before .before .before .before .before))
 
-slice-write-nodes : tie.Need-slice-write-nodes Inv-loop μ-loop
-slice-write-nodes c = rw (c .before .before .before .before .before .before .loop .inv .1 .keeps .nodes-size) (few (c .before .before .before .before .before))
+element-write-nodes : tie.Need-element-write-nodes Inv-loop μ-loop
+element-write-nodes c = few (c .before .before .before .before .before .before)
 
 mul-times : tie.Need-mul-times Inv-loop μ-loop
-mul-times c = omega (arith, few (c .before .before .before .before .before))
+mul-times c = omega (arith, few (c .before .before .before .before .before .before))
 
-slice-write-times : tie.Need-slice-write-times Inv-loop μ-loop
-slice-write-times c = rw (c .before .before .before .before .before .before .loop .inv .1 .keeps .times-size) (few (c .before .before .before .before .before))
+element-write-times : tie.Need-element-write-times Inv-loop μ-loop
+element-write-times c = few (c .before .before .before .before .before .before)
 
 add-count : tie.Need-add-count Inv-loop μ-loop
-add-count c = omega (arith, few (c .before .before .before .before .before))
+add-count c = omega (arith, few (c .before .before .before .before .before .before))
 
 child-of-requires-2 : tie.Need-child-of-requires-2 Inv-loop μ-loop
-child-of-requires-2 c κs = omega (arith, level (c .before .before .before .before .before))
+child-of-requires-2 c κs = omega (arith, level (c .before .before .before .before .before .before))
 
 add-depth : tie.Need-add-depth Inv-loop μ-loop
-add-depth c = omega (arith, level (c .before .before .before .before .before))
+add-depth c = omega (arith, level (c .before .before .before .before .before .before))
 
--- where the walk goes on from: the child that the comparison tells
-joined : (c : tie.Joined1 Inv-loop μ-loop) → c .if1 .v ≡ childOf (ltb (c .before .before .node .given .0 .0) (start (c .before .before .before .before .before .before) .args .target)) (c .before .before .before .before .before .before .loop .v)
-joined c =
-    let x = c .before .before .node .given .0 .0 in
-    let t = start (c .before .before .before .before .before .before) .args .target in
-    ⊎-elim
-    (λ w. rw (lt-ltb x t (w .0 .taken)) (w .5 ∙ w .1 .ensures))
-    (λ w. rw (le-ltb x t (w .0 .left)) (w .5 ∙ w .1 .ensures))
-    (c .if1 .came)
+-- a child is one level further down
+deeper : (c : tie.In-loop Inv-loop μ-loop) (right : Bool) → (c .before .loop .depth + 1 ≡ height (childOf right (c .before .loop .v)) - 1) × (c .before .loop .v < childOf right (c .before .loop .v))
+deeper c right =
+    let v = c .before .loop .v in
+    let one = stands (c .before) .one in
+    (omega (arith, height-child right v one, height-above v 0 one, c .before .loop .inv .1), omega (arith, child-bounds right v))
+
+less : (n v u : ℕ) → v ≤ n → v < u → suc n - u < suc n - v
+less n v u h k = omega arith
 
 loop-less : tie.Need-loop-less Inv-loop μ-loop
 loop-less c =
-    let l = c .before .before .before .before .before .before .loop in
-    let past = ltb (c .before .before .node .given .0 .0) (start (c .before .before .before .before .before .before) .args .target) in
-    rw (joined c) (omega (arith, child-bounds past (l .v), l .inv .0 .one))
+    let in-loop = c .before .before .before .before .before .before in
+    ⊎-elim
+    (λ w. rw (w .5, w .1 .ensures) (less _ _ _ (in-loop .loop-test .taken) (deeper in-loop true .1)))
+    (λ w. rw (w .5, w .1 .ensures) (less _ _ _ (in-loop .loop-test .taken) (deeper in-loop false .1)))
+    (c .if2 .came)
 
 loop-again : tie.Need-loop-again Inv-loop μ-loop
 loop-again c =
-    let at-loop = c .before .before .before .before .before .before in
-    let a = start at-loop .args in
-    let l = at-loop .loop in
-    let f = start at-loop .pre .0 in
-    let j = c .if1 in
-    let n = a .n in
-    let read = timesIn (levels at-loop) (a .s .now) in
-    let x = c .before .before .node .given .0 .0 in
-    let t = a .target in
-    let e = time-is (c .before .before) in
-    let now = kept-child (l .inv .0) (l .inv .1) (omega arith) f x t in
-    let p : remembered (j .count) (j .nodes) (j .times) ≡ cond (ltb x t) (kept at-loop) (withNode (levels at-loop) (a .s .now) (kept at-loop) (l .v) x) = ⊎-elim
-    (λ w. rw (w .2, w .3, w .4, lt-ltb x t (w .0 .taken)))
-    (λ w. rw (w .2, w .3, w .4, le-ltb x t (w .0 .left)) (added (levels at-loop) (a .s .now) (kept at-loop) (l .v) x))
-    (j .came) in
-    let q = ap keptIn p ∙ now in
-    rw (joined c) (
-      rw (stretch-child n (ltb x t) (l .v) (l .inv .0 .one)) (stands-child (l .inv .0) (ltb x t) x (omega arith) e),
-      rw p (resumes-child (l .inv .0) (l .inv .1) (omega arith) f x t e),
-      ap (λ (k : List ℕ). targetFrom n read t k (l .opened + 1) (childOf (ltb x t) (l .v))) q
-          ∙ sym (target-step n read t (keptIn (kept at-loop)) (l .v) x (l .inv .0 .one) (omega arith) e (l .opened)) ∙ l .inv .2,
-      ap (λ (k : List ℕ). keptFrom n read t k (childOf (ltb x t) (l .v))) q
-          ∙ sym (kept-step n read t (keptIn (kept at-loop)) (l .v) x (l .inv .0 .one) (omega arith) e) ∙ l .inv .3,
-    )
-
-missing-at-requires : tie.Need-missing-at-requires Inv-loop μ-loop
-missing-at-requires c κs =
-    let at-loop = c .before in
-    (omega arith, at-loop .loop .inv .1 .child, omega (arith, pins-bound (levels at-loop) (start at-loop .args .s .now) (start at-loop .pre .0)))
-
-same-length-3 : tie.Need-same-length-3 Inv-loop μ-loop
-same-length-3 c = same (c .before .before) .0
-
-same-length-4 : tie.Need-same-length-4 Inv-loop μ-loop
-same-length-4 c = same (c .before .before) .1
+    let in-loop = c .before .before .before .before .before .before in
+    let e = start (in-loop .before) in
+    let m = in-loop .before .loop .inv .0 in
+    let x = stands-time (stands (in-loop .before)) (c .before .before .open-node .ensures) (c .before .if1 .left) in
+    ⊎-elim
+    (λ w. rw (w .2, w .3, w .4, w .5, w .1 .ensures) (comes-right (e .args .target) m (e .pre .0) (in-loop .loop-test .taken) x (w .0 .taken), deeper in-loop true .0))
+    (λ w. rw (w .2, w .3, w .4, w .5, w .1 .ensures) (comes-left (e .args .target) m (e .pre .0) (in-loop .loop-test .taken) x (w .0 .left), deeper in-loop false .0))
+    (c .if2 .came)
 
 returns-2 : tie.Need-returns-2 Inv-loop μ-loop
-returns-2 c =
-    let at-loop = c .before .before in
-    let a = start at-loop .args in
-    let l = at-loop .loop in
-    let read = timesIn (levels at-loop) (a .s .now) in
-    let w = kept at-loop in
-    let p : c .missing-at .result ≡ positionBy w (a .n) = c .missing-at .ensures ∙ sym (stands-end (l .inv .0) (omega arith)) ∙ l .inv .1 .ends in
-    let rests : Rests (levels at-loop) (a .s .now) w (c .missing-at .result) (l .opened) = record { keeps = l .inv .1 .keeps; is = p; few = omega (arith, l .inv .1 .few, c .missing-at .ensures) } in
-    (ap (λ (p : ℕ). found p (l .opened)) p ∙ sym (target-end (a .n) read (a .target) (keptIn w) (l .opened) (l .v) (omega arith)) ∙ l .inv .2, (sym (kept-end (a .n) read (a .target) (keptIn w) (l .v) (omega arith)) ∙ l .inv .3, rests))
+returns-2 c = (c .before .loop .inv .0, c .loop-test .left)
 
 pub go-down-spec : {M : Type 1} → statement M
 go-down-spec =
@@ -202,23 +140,18 @@ go-down-spec =
     sub-depth
     loop-holds
     add-opened
-    open-known-requires
-    enum-known-node
-    enum-known-node-2
-    same-length
-    same-length-2
+    open-node-requires
+    refusal-of-requires
     returns
+    cast-time
     child-of-requires
     mul-nodes
-    slice-write-nodes
+    element-write-nodes
     mul-times
-    slice-write-times
+    element-write-times
     add-count
     child-of-requires-2
     add-depth
     loop-less
     loop-again
-    missing-at-requires
-    same-length-3
-    same-length-4
     returns-2)

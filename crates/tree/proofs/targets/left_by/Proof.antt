@@ -1,8 +1,8 @@
--- `left_by` meets its contract.
+-- The loop passes one node a turn, as `leftBy` does.
 use native.Mathlib.Omega.{arith}
 use Prim.Native.Nat.{_-_, _≤_}
 use mathlib.Core.Path.{_≡_, refl, sym, _∙_}
-use lib.ListN.{length, getD}
+use lib.ListN.{getD}
 use borrow.Author.Tests.{lt-ltb, le-ltb}
 use Rattle.tree.specs.Remembering.{leftBy}
 use Rattle.tree.proofs.Dropping.{left-step}
@@ -10,7 +10,7 @@ use Rattle.tree.proofs.targets.left_by.Statement.{statement}
 use Rattle.tree.proofs.targets.left_by.Tie as tie
 
 abbrev Inv-loop : tie.InvT-loop
-Inv-loop times count target left₀ left = (left ≤ length times) × (leftBy times target left ≡ leftBy times target left₀)
+Inv-loop times count target left₀ left = (left ≤ 16) × (leftBy times target left ≡ leftBy times target left₀)
 
 abbrev μ-loop : tie.MeasureT-loop
 μ-loop times count target left₀ left = left
@@ -24,8 +24,8 @@ sub-if1 c = omega arith
 mul-if1 : tie.Need-mul-if1 Inv-loop μ-loop
 mul-if1 c = omega arith
 
-shared-slice-read-if1 : tie.Need-shared-slice-read-if1 Inv-loop μ-loop
-shared-slice-read-if1 c = omega arith
+element-copy-out-if1 : tie.Need-element-copy-out-if1 Inv-loop μ-loop
+element-copy-out-if1 c = omega arith
 
 returns : tie.Need-returns Inv-loop μ-loop
 returns c =
@@ -59,7 +59,7 @@ left-by-spec =
     loop-holds
     sub-if1
     mul-if1
-    shared-slice-read-if1
+    element-copy-out-if1
     returns
     sub-left
     loop-less

@@ -1,6 +1,5 @@
--- `access` meets its contract.
+-- The nodes opened are the first digits of the goal, one digit more each, which are the nodes from the root down to it.
 use native.Mathlib.Omega.{arith}
-use mathlib.Core.Logic.{⊎-elim}
 use mathlib.Core.Path.{_≡_, refl, sym, ap, ap₂, _∙_}
 use mathlib.Core.List.{_∷_}
 use Prim.Native.Nat.{ℕ, _+_, _-_, _*_, _/_, _^_, _≤_, _<_}
@@ -9,10 +8,10 @@ use borrow.Author.Needs.{needs}
 use lib.Pow.{shr-shr, shr-le, shr-lt, pow-pos}
 use Rattle.tree.specs.Shape.{height}
 use Rattle.tree.specs.Levels.{fetchedAt}
-use Rattle.tree.specs.Times.{at, under, timeOpened, known, timesIn}
+use Rattle.tree.specs.Times.{at, timeTold, known, timesIn}
 use Rattle.tree.specs.Walks.{Answer, found, met, accessAnswer}
 use Rattle.tree.proofs.Heights.{height-bound, height-mono, first-digits}
-use Rattle.tree.proofs.NodeTimes.{time-above, time-step}
+use Rattle.tree.proofs.NodeTimes.{time-above, time-step, told-time}
 use Rattle.tree.proofs.NodeFetches.{Level, level-fits, pins-bound}
 use Rattle.tree.proofs.Walks.{met-fine, met-refused}
 use Rattle.tree.proofs.Paths.{downTo, downTo-on, access-down}
@@ -67,22 +66,18 @@ on-way c =
 level : (c : tie.In-loop Inv-loop μ-loop) → let a = c .before .before .before .before .before .args in Level (a .t2) (a .s .now) (c .before .loop .depth)
 level c = level-fits (c .before .before .before .before .before .pre .0) (on-way c .0) (on-way c .2)
 
--- its time, by its parent's
-time-by : (c : tie.In-loop Inv-loop μ-loop) → let a = c .before .before .before .before .before .args in
-    timesIn (a .t2) (a .s .now) (node c) ≡ under (node c) (at (c .before .loop .time)) (fetchedAt (a .t2) (a .s .now) (node c))
-time-by c =
-    let a = c .before .before .before .before .before .args in
-    let l = c .before .loop in
+-- its time is what is told of it
+time-told : (c : tie.After-open-node Inv-loop μ-loop) → let a = c .before .before .before .before .before .before .before .before .before .args in timesIn (a .t2) (a .s .now) (node (c .before .before .before .before)) ≡ timeTold (node (c .before .before .before .before)) (c .open-node .result)
+time-told c =
+    let a = c .before .before .before .before .before .before .before .before .before .args in
+    let l = c .before .before .before .before .before .loop in
+    let i = c .before .before .before .before in
     let e : l .below - 1 + 1 ≡ l .below = omega arith in
-    let half : node c / 2 ≡ goal c / 2 ^ l .below = shr-shr (goal c) (l .below - 1) 1 ∙ rw e in
-    time-step (fetchedAt (a .t2) (a .s .now)) (node c) (omega (arith, on-way c, pow-pos (l .depth))) ∙ rw (half, l .inv .2)
+    let half : node i / 2 ≡ goal i / 2 ^ l .below = shr-shr (goal i) (l .below - 1) 1 ∙ rw e in
+    time-step (fetchedAt (a .t2) (a .s .now)) (node i) (omega (arith, on-way i, pow-pos (l .depth))) ∙ rw (half, l .inv .2, c .open-node .ensures)
 
-time-is : (c : tie.Joined1 Inv-loop μ-loop) → let a = c .before .before .before .before .before .before .before .before .before .before .before .before .args in timesIn (a .t2) (a .s .now) (node (c .before .before .before .before .before .before .before)) ≡ at (c .if1 .time)
-time-is c =
-    ⊎-elim
-    (λ w. rw (w .1) (time-by (c .before .before .before .before .before .before .before) ∙ sym (c .before .short-time .ensures (w .0 .taken))))
-    (λ w. rw (w .10) (time-by (c .before .before .before .before .before .before .before) ∙ sym (w .6 .ensures) ∙ ap timeOpened (w .8 .given .1)))
-    (c .if1 .came)
+time-is : (c : tie.Else1 Inv-loop μ-loop) → let a = c .before .before .before .before .before .before .before .before .before .before .args in timesIn (a .t2) (a .s .now) (node (c .before .before .before .before .before)) ≡ at (c .before .open-node .result)
+time-is c = time-told (c .before) ∙ told-time (node (c .before .before .before .before .before)) (c .before .open-node .result) (omega arith)
 
 -- what is left of the answer
 abbrev answer : tie.In-loop Inv-loop μ-loop → Answer
@@ -103,42 +98,36 @@ shr-v c = omega (arith, c .before .loop .inv .0, height-mono (goal c) (c .before
 add-nodes : tie.Need-add-nodes Inv-loop μ-loop
 add-nodes c = omega (arith, level c)
 
-short-time-requires : tie.Need-short-time-requires Inv-loop μ-loop
-short-time-requires c κs = (c .before .before .before .before .before .before .before .before .before .before .pre .0, ((search needs, search needs), on-way (c .before .before .before .before .before)))
+open-node-requires : tie.Need-open-node-requires Inv-loop μ-loop
+open-node-requires c κs = (c .before .before .before .before .before .before .before .before .pre .0, on-way (c .before .before .before))
+
+refusal-of-requires : tie.Need-refusal-of-requires Inv-loop μ-loop
+refusal-of-requires c κs = search needs
+
+returns : tie.Need-returns Inv-loop μ-loop
+returns c =
+    let i = c .before .before .before .before .before .before in
+    let a = c .before .before .before .before .before .before .before .before .before .before .before .args in
+    let e = time-told (c .before .before) ∙ sym (c .refusal-of .ensures) in
+    sym (met-refused (timesIn (a .t2) (a .s .now)) (answer i) (node i) _ _ _ e) ∙ on i
 
 cast-time : tie.Need-cast-time Inv-loop μ-loop
 cast-time c = search needs
 
-open-at-requires : tie.Need-open-at-requires Inv-loop μ-loop
-open-at-requires c κs = (c .before .before .before .before .before .before .before .before .before .before .before .before .before .before .before .before .before .pre .0, ((search needs, search needs), on-way (c .before .before .before .before .before .before .before .before .before .before .before .before)))
-
-enum-known-opened : tie.Need-enum-known-opened Inv-loop μ-loop
-enum-known-opened c = search needs
-
-enum-known-opened-2 : tie.Need-enum-known-opened-2 Inv-loop μ-loop
-enum-known-opened-2 c = search needs
-
-returns : tie.Need-returns Inv-loop μ-loop
-returns c =
-    let i = c .before .before .before .before .before .before .before .before .before .before .before .before .before .before .before .before in
-    let a = c .before .before .before .before .before .before .before .before .before .before .before .before .before .before .before .before .before .before .before .before .before .args in
-    let e = time-by i ∙ sym (c .before .before .before .open-at .ensures) ∙ ap timeOpened (c .before .opened2 .given .1) in
-    sym (met-refused (timesIn (a .t2) (a .s .now)) (answer i) (node i) _ _ _ e) ∙ on i
-
 add-depth : tie.Need-add-depth Inv-loop μ-loop
-add-depth c = omega (arith, level (c .before .before .before .before .before .before .before))
+add-depth c = omega (arith, level (c .before .before .before .before .before))
 
 loop-less : tie.Need-loop-less Inv-loop μ-loop
 loop-less c = omega arith
 
 loop-again : tie.Need-loop-again Inv-loop μ-loop
 loop-again c =
-    let i = c .before .before .before .before .before .before .before in
-    let a = c .before .before .before .before .before .before .before .before .before .before .before .before .args in (
-      omega (arith, c .before .before .before .before .before .before .before .before .loop .inv .0),
+    let i = c .before .before .before .before .before in
+    let a = c .before .before .before .before .before .before .before .before .before .before .args in (
+      omega (arith, c .before .before .before .before .before .before .loop .inv .0),
       omega arith,
       time-is c,
-      sym (met-fine (timesIn (a .t2) (a .s .now)) (answer i) (node i) (c .if1 .time) _ (time-is c)) ∙ on i,
+      sym (met-fine (timesIn (a .t2) (a .s .now)) (answer i) (node i) _ _ (time-is c)) ∙ on i,
     )
 
 returns-2 : tie.Need-returns-2 Inv-loop μ-loop
@@ -164,12 +153,10 @@ access-spec =
     sub-below
     shr-v
     add-nodes
-    short-time-requires
-    cast-time
-    open-at-requires
-    enum-known-opened
-    enum-known-opened-2
+    open-node-requires
+    refusal-of-requires
     returns
+    cast-time
     add-depth
     loop-less
     loop-again

@@ -1,14 +1,12 @@
--- `search` meets its contract.
+-- Each turn is one step of `targetFrom`, and where the walk ends the stretch, which has no pins, starts at its position.
 use native.Mathlib.Omega.{arith}
 use mathlib.Core.Bool.{cond}
-use mathlib.Core.Logic.{⊎-elim}
 use mathlib.Core.List.{List, [], _∷_}
 use mathlib.Core.Path.{_≡_, refl, sym, ap, _∙_}
 use Prim.Native.Nat.{ℕ, suc, _+_, _-_, _/_, _≤_}
 use native.Mathlib.Nat.{zero-add}
 use borrow.Author.Needs.{needs}
 use lib.Dec.{ltb}
-use Rattle.tree.specs.declared.nodes.Opened.the-variants.{Time}
 use Rattle.tree.specs.Shape.{stretch}
 use Rattle.tree.specs.Times.{at, timesIn}
 use Rattle.tree.specs.Walks.{found, position, targetFrom, searchAnswer}
@@ -16,7 +14,7 @@ use Rattle.tree.specs.Standing.{Stands}
 use Rattle.tree.proofs.Stretches.{stretch-root, stretch-child}
 use Rattle.tree.proofs.Walks.{child-bounds, parent-of}
 use Rattle.tree.proofs.NodeFetches.{Level, pins-bound}
-use Rattle.tree.proofs.Steps.{stands-root, stands-end, stands-level, stands-opened, stands-child, side-ends, target-end, target-refused, target-step}
+use Rattle.tree.proofs.Steps.{stands-root, stands-end, stands-level, stands-told, stands-time, stands-child, side-ends, target-end, target-refused, target-step}
 use Rattle.tree.proofs.walking.search.Statement.{statement}
 use Rattle.tree.proofs.walking.search.Tie as tie
 
@@ -43,60 +41,47 @@ level : (c : tie.In-loop Inv-loop μ-loop) → let a = c .before .before .before
 level c = stands-level (c .before .loop .inv .0) (c .before .before .before .pre) (omega arith)
 
 -- its time
-time-is : (c : tie.Joined1 Inv-loop μ-loop) → let a = c .before .before .before .before .before .before .before .before .before .before .args in timesIn (a .t2) (a .s .now) (c .before .before .before .before .before .before .before .before .loop .v) ≡ at (c .if1 .time)
-time-is c =
-    let w = c .before .before .before .before .before .before .before .before .loop .inv .0 in
-    ⊎-elim
-    (λ k. rw (k .1) (stands-opened w {o = Time (c .before .short-time .result)} (c .before .short-time .ensures (k .0 .taken)) refl))
-    (λ k. rw (k .10) (stands-opened w (k .6 .ensures) (k .8 .given .1)))
-    (c .if1 .came)
+time-is : (c : tie.Else1 Inv-loop μ-loop) → let a = c .before .before .before .before .before .before .before .before .args in timesIn (a .t2) (a .s .now) (c .before .before .before .before .before .before .loop .v) ≡ at (c .before .open-node .result)
+time-is c = stands-time (c .before .before .before .before .before .before .loop .inv .0) (c .before .open-node .ensures) (omega arith)
 
 add-nodes : tie.Need-add-nodes Inv-loop μ-loop
 add-nodes c = omega (arith, level c)
 
-short-time-requires : tie.Need-short-time-requires Inv-loop μ-loop
-short-time-requires c κs =
-    let w = c .before .before .before .before .before .before .loop .inv .0 in
-    (c .before .before .before .before .before .before .before .before .pre, ((search needs, search needs), (w .low, w .high, omega arith)))
+open-node-requires : tie.Need-open-node-requires Inv-loop μ-loop
+open-node-requires c κs =
+    let w = c .before .before .before .before .loop .inv .0 in
+    (c .before .before .before .before .before .before .pre, (w .low, w .high, omega arith))
+
+refusal-of-requires : tie.Need-refusal-of-requires Inv-loop μ-loop
+refusal-of-requires c κs = search needs
+
+returns : tie.Need-returns Inv-loop μ-loop
+returns c =
+    let a = c .before .before .before .before .before .before .before .before .before .args in
+    let l = c .before .before .before .before .before .before .before .loop in
+    let e = stands-told (l .inv .0) (c .before .before .open-node .result) (c .before .before .open-node .ensures) ∙ sym (c .refusal-of .ensures) in
+    sym (target-refused (a .t2 .pins) (timesIn (a .t2) (a .s .now)) (a .target) (l .inv .2 .0) (l .nodes) (l .v) _ _ (l .inv .0 .one) (omega arith) e) ∙ l .inv .2 .2
 
 cast-time : tie.Need-cast-time Inv-loop μ-loop
 cast-time c = search needs
 
-open-at-requires : tie.Need-open-at-requires Inv-loop μ-loop
-open-at-requires c κs =
-    let w = c .before .before .before .before .before .before .before .before .before .before .before .before .before .loop .inv .0 in
-    (c .before .before .before .before .before .before .before .before .before .before .before .before .before .before .before .pre, ((search needs, search needs), (w .low, w .high, omega arith)))
-
-enum-known-opened : tie.Need-enum-known-opened Inv-loop μ-loop
-enum-known-opened c = search needs
-
-enum-known-opened-2 : tie.Need-enum-known-opened-2 Inv-loop μ-loop
-enum-known-opened-2 c = search needs
-
-returns : tie.Need-returns Inv-loop μ-loop
-returns c =
-    let a = c .before .before .before .before .before .before .before .before .before .before .before .before .before .before .before .before .before .before .before .args in
-    let l = c .before .before .before .before .before .before .before .before .before .before .before .before .before .before .before .before .before .loop in
-    let e = stands-opened (l .inv .0) (c .before .before .before .open-at .ensures) (c .before .opened2 .given .1) in
-    sym (target-refused (a .t2 .pins) (timesIn (a .t2) (a .s .now)) (a .target) (l .inv .2 .0) (l .nodes) (l .v) _ _ (l .inv .0 .one) (omega arith) e) ∙ l .inv .2 .2
-
 child-of-requires : tie.Need-child-of-requires Inv-loop μ-loop
-child-of-requires c κs = omega (arith, level (c .before .before .before .before .before .before .before))
+child-of-requires c κs = omega (arith, level (c .before .before .before .before .before))
 
 add-depth : tie.Need-add-depth Inv-loop μ-loop
-add-depth c = omega (arith, level (c .before .before .before .before .before .before .before .before))
+add-depth c = omega (arith, level (c .before .before .before .before .before .before))
 
 loop-less : tie.Need-loop-less Inv-loop μ-loop
 loop-less c =
-    let l = c .before .before .before .before .before .before .before .before .before .loop in
-    let t = c .before .before .before .before .before .before .before .before .before .before .before .args .target in
-    rw (c .child-of .ensures) (omega (arith, child-bounds (ltb (c .before .if1 .time) t) (l .v), l .inv .0 .one))
+    let l = c .before .before .before .before .before .before .before .loop in
+    let t = c .before .before .before .before .before .before .before .before .before .args .target in
+    rw (c .child-of .ensures) (omega (arith, child-bounds (ltb (c .before .before .open-node .result) t) (l .v), l .inv .0 .one))
 
 loop-again : tie.Need-loop-again Inv-loop μ-loop
 loop-again c =
-    let a = c .before .before .before .before .before .before .before .before .before .before .before .args in
-    let l = c .before .before .before .before .before .before .before .before .before .loop in
-    let x = c .before .if1 .time in
+    let a = c .before .before .before .before .before .before .before .before .before .args in
+    let l = c .before .before .before .before .before .before .before .loop in
+    let x = c .before .before .open-node .result in
     let t = a .target in
     let n = a .t2 .pins in
     let e = time-is (c .before) in
@@ -134,12 +119,10 @@ search-spec =
     μ-loop
     loop-holds
     add-nodes
-    short-time-requires
-    cast-time
-    open-at-requires
-    enum-known-opened
-    enum-known-opened-2
+    open-node-requires
+    refusal-of-requires
     returns
+    cast-time
     child-of-requires
     add-depth
     loop-less
