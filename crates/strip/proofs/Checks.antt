@@ -1,33 +1,34 @@
--- What check's functions know of the times that were listed, and of the image that they compare.
+-- What is known of the times that were listed, of what is told of them, and of what unpack leaves.
 use mathlib.Core.Path.{_≡_, refl, sym, ap, _∙_}
-use mathlib.Core.Bool.{Bool, true, false, not, cond}
-use mathlib.Core.List.{List, [], _∷_, _++_}
-use Prim.Native.Nat.{ℕ, _+_, _^_, _≤_, _<_}
+use mathlib.Core.Bool.{Bool, true, false, not, cond, false≢true}
+use mathlib.Core.List.{List, [], _∷_}
+use mathlib.Core.Option.{Option, none, some}
+use Prim.Native.Nat.{ℕ, _-_, _^_, _≤_, _<_}
 use native.Mathlib.Omega.{arith}
-use lib.ListN.{length, take, drop, length-append}
+use lib.ListN.{length, take, replicate, length-append}
 use lib.Pow.{pow-mono}
 use lib.Seq.{take-at}
-use borrow.Author.Tests.{le-ltb}
 use Rattle.codes.specs.Lists.{same}
 use Rattle.codes.specs.Codes.{Within}
 use Rattle.tree.specs.declared.nodes.Levels.{Levels}
-use Rattle.tree.specs.Stored.{storedValues}
 use Rattle.tree.specs.Levels.{Fits}
 use Rattle.tree.specs.Lists.{ordered}
-use Rattle.tree.specs.Listing.{Stop, nowhere, at, accesses, stopFrom, endOf}
-use Rattle.tree.specs.Buffers.{replaced}
-use Rattle.tree.proofs.Buffers.{front-of}
-use Rattle.tree.proofs.Promises.{height-least, stored-levels, listing-finds}
+use Rattle.tree.specs.Listing.{Stop, nowhere, at, accesses, endOf, stopAll}
+use Rattle.tree.specs.Buffers.{filledTo}
+use Rattle.tree.specs.Chosen.{allChosen}
+use Rattle.tree.proofs.Buffers.{filled-whole}
+use Rattle.tree.proofs.Promises.{height-least, listing-finds}
+use Rattle.strip.specs.declared.reading.Asked.{Asked}
+use Rattle.strip.specs.declared.reading.Asked.the-variants as asking
 use Rattle.strip.specs.Lists.{firstLower}
-use Rattle.strip.specs.Outcomes.{Outcome, gives, refuses, test, verdict}
-use Rattle.strip.specs.Layout.{maxBytes}
-use Rattle.strip.specs.Written.{shortPins, roomOf}
+use Rattle.strip.specs.Outcomes.{Outcome, gives, refuses, verdict, after}
 use Rattle.strip.specs.Image.{image}
-use Rattle.strip.specs.Calls.{roomFor, written, listIn, imageTest, checkIn, repeatFrom}
-use Rattle.strip.specs.Read.{fallsTest, unpackIn, gapOr}
-use Rattle.strip.proofs.Layouts.{height-fits}
-use Rattle.strip.proofs.Plans.{strip-small}
-use Rattle.strip.proofs.Readings.{ending, repeat-lists, check-all, check-stopped}
+use Rattle.strip.specs.Opening.{opening}
+use Rattle.strip.specs.Calls.{roomFor, listIn, imageTest, checkIn}
+use Rattle.strip.specs.Read.{unpackIn, gapOr, counted, gapOf, endIn, listRead}
+use Rattle.strip.proofs.OpenImages.{open-image, open-packable, image-chosen}
+use Rattle.strip.proofs.Readings.{ending, repeat-lists, falls-first, check-lists, check-all, check-stopped}
+use Rattle.codes.proofs.Lists.{same-lists, same-itself}
 use Rattle.strip.proofs.Verdicts.{gives-same, gives-refuses}
 
 -- the levels of an open strip have at most 65,535 pins
@@ -38,7 +39,7 @@ pins-few levels s f = omega (arith, height-least .enough (levels .pins), pow-mon
 
 module _ (levels : Levels) (s : List ℕ) where
   -- as many as there are positions before the one where listing ends
-  pub list-count : (stop : Stop) → stop ≡ stopFrom (accesses levels s) (levels .pins) 0 → length (listIn s levels) ≡ endOf stop (levels .pins)
+  pub list-count : (stop : Stop) → stop ≡ stopAll levels s → length (listIn s levels) ≡ endOf stop (levels .pins)
   unfolding listIn
   list-count stop e = listing-finds .count (accesses levels s) (levels .pins) ∙ ap (λ (z : Stop). endOf z (levels .pins)) (sym e)
 
@@ -48,51 +49,92 @@ module _ (levels : Levels) (s : List ℕ) where
     pub count : n ≡ length (take n now)
     pub is : take n now ≡ listIn s levels
 
-  pub list-front : (n : ℕ) (out now : List ℕ) → length (listIn s levels) ≡ n → now ≡ replaced out 0 (listIn s levels) → Front n now
-  list-front n out now l e =
-      let is : take n now ≡ listIn s levels = rw e (front-of out (listIn s levels) n l) in
+  pub listed-front : {stop : Stop} {now : List ℕ} → stop ≡ stopAll levels s → now ≡ filledTo (levels .pins) (listIn s levels)
+      → Front (endOf stop (levels .pins)) now
+  listed-front {stop} {now} e is =
+      let n = endOf stop (levels .pins) in
+      let l = list-count stop e in
+      let rest = replicate {A = ℕ} (levels .pins - length (listIn s levels)) 0 in
+      let front : take n now ≡ listIn s levels = rw is (take-at (listIn s levels) rest n l) in
       record {
-        room = rw e (omega (arith, length-append (listIn s levels) (drop (0 + length (listIn s levels)) out)));
-        count = rw is (sym l);
-        is = is;
+        room = rw is (omega (arith, l, length-append (listIn s levels) rest));
+        count = rw front (sym l);
+        is = front;
       }
 
-  pub listed-front : {stop : Stop} (out : List ℕ) {now : List ℕ} → stop ≡ stopFrom (accesses levels s) (levels .pins) 0 → now ≡ replaced out 0 (listIn s levels)
-      → Front (endOf stop (levels .pins)) now
-  listed-front {stop} out {now} e is = list-front (endOf stop (levels .pins)) out now (list-count stop e) is
+-- ---- what is told
 
--- ---- the answer
+after-gives : {A : Type 0} (o : Outcome A) → after o gives ≡ o
+after-gives (gives a) = refl
+after-gives (refuses r c) = refl
+
+-- what follows the times that were listed
+abbrev pub endBy : Asked → List ℕ → Levels → Stop → Outcome (Option ℕ)
+endBy asked s levels nowhere = endIn asked s levels
+endBy asked s levels (at i r c) = refuses r c
+
+module _ (s : List ℕ) (levels : Levels) (o : opening s ≡ gives levels) (bytes : Within 8 s) where
+  -- the levels tell 12
+  chosen-is : nowhere ≡ stopAll levels s → ordered (listIn s levels) ≡ true → allChosen levels s ≡ same (image (listIn s levels)) s
+  chosen-is all in-order = go (allChosen levels s) (same (image (listIn s levels)) s) refl refl
+    where
+      go : (a b : Bool) → allChosen levels s ≡ a → same (image (listIn s levels)) s ≡ b → a ≡ b
+      go true b p q = sym (same-itself s) ∙ rw (open-image s levels o bytes all p) at q
+      go false true p q =
+          let is : image (listIn s levels) ≡ s = same-lists (image (listIn s levels)) s q in
+          absurd (false≢true (sym p ∙ image-chosen s levels (listIn s levels) (open-packable s levels o all in-order is) o is))
+      go false false p q = refl
+
+  -- check and unpack
+  check-told : (stop : Stop) → stop ≡ stopAll levels s → gapOr 0 (listIn s levels) (endBy asking.Check s levels stop) ≡ counted (checkIn s levels)
+  unfolding verdict
+  check-told stop e =
+      let xs = listIn s levels in
+      sym (after-gives (gapOr 0 xs (endBy asking.Check s levels stop))) ∙ falls-first xs (endBy asking.Check s levels stop) gives
+      ∙ go (ordered xs) refl stop e
+      ∙ ap counted (ap (λ (z : Stop). cond (not (ordered xs)) (refuses 11 (firstLower xs)) (after (ending z) (λ _. verdict (imageTest s levels ∷ []) (levels .pins)))) e ∙ sym (check-lists s levels))
+    where
+      last : (b : Bool) → after (cond (not b) (refuses 12 0) (gives (some (levels .pins)))) gives ≡ counted (cond (not b) (refuses 12 0) (gives (levels .pins)))
+      last true = refl
+      last false = refl
+
+      go : (b : Bool) → ordered (listIn s levels) ≡ b → (z : Stop) → z ≡ stopAll levels s
+          → cond (not b) (refuses 11 (firstLower (listIn s levels))) (after (endBy asking.Check s levels z) gives)
+          ≡ counted (cond (not b) (refuses 11 (firstLower (listIn s levels))) (after (ending z) (λ _. verdict (imageTest s levels ∷ []) (levels .pins))))
+      go false p z q = refl
+      go true p (at i r c) q = refl
+      go true p nowhere q = rw (chosen-is q p) (last (same (image (listIn s levels)) s))
+
+  pub read-lists : (asked : Asked) (stop : Stop) → stop ≡ stopAll levels s → gapOr (gapOf asked) (listIn s levels) (endBy asked s levels stop) ≡ listRead asked s levels
+  unfolding listIn
+  read-lists asking.Check stop e = check-told stop e
+  read-lists asking.Unpack stop e = ap (gapOr 0 (listIn s levels)) (same-end stop) ∙ check-told stop e
+    where
+      same-end : (z : Stop) → endBy asking.Unpack s levels z ≡ endBy asking.Check s levels z
+      same-end nowhere = refl
+      same-end (at i r c) = refl
+  read-lists (asking.Repeat r) stop e =
+      ap (gapOr r (listIn s levels)) (same-end stop) ∙ ap (λ (z : Stop). gapOr r (listIn s levels) (ending z)) e ∙ sym (repeat-lists (accesses levels s) r (levels .pins))
+    where
+      same-end : (z : Stop) → endBy (asking.Repeat r) s levels z ≡ ending z
+      same-end nowhere = refl
+      same-end (at i r c) = refl
+
+-- ---- check's answer
 
 module _ (s : List ℕ) (levels : Levels) where
-  pub checked-all : (now : List ℕ) → nowhere ≡ stopFrom (accesses levels s) (levels .pins) 0 → Front levels s (levels .pins) now
-      → verdict (fallsTest (take (levels .pins) now) ∷ test (not (same (image (take (levels .pins) now)) s)) 12 0 ∷ []) (length (take (levels .pins) now)) ≡ checkIn s levels
-  checked-all now e f =
-      ap (λ (l : List ℕ). verdict (fallsTest l ∷ test (not (same (image l) s)) 12 0 ∷ []) (length l)) (f .is)
-      ∙ ap (λ (n : ℕ). verdict (fallsTest (listIn s levels) ∷ imageTest s levels ∷ []) n) (list-count levels s nowhere e)
-      ∙ sym (check-all s levels (sym e))
-
-  pub checked-stopped : (i r c : ℕ) (now : List ℕ) → at i r c ≡ stopFrom (accesses levels s) (levels .pins) 0 → Front levels s i now
-      → verdict (fallsTest (take i now) ∷ test true r c ∷ []) 0 ≡ checkIn s levels
-  checked-stopped i r c now e f = ap (λ (l : List ℕ). verdict (fallsTest l ∷ test true r c ∷ []) 0) (f .is) ∙ sym (check-stopped s levels i r c (sym e))
-
-  pub repeated-lists : (r : ℕ) (stop : Stop) (n : ℕ) (now : List ℕ) → stop ≡ stopFrom (accesses levels s) (levels .pins) 0 → Front levels s n now
-      → gapOr r (take n now) (ending stop) ≡ repeatFrom (accesses levels s) r (levels .pins) 0
-  unfolding listIn
-  repeated-lists r stop n now e f =
-      ap (λ (l : List ℕ). gapOr r l (ending stop)) (f .is) ∙ ap (λ (z : Stop). gapOr r (listIn s levels) (ending z)) e ∙ sym (repeat-lists (accesses levels s) r (levels .pins))
-
   -- what is known of a strip that check accepts
   pub record Accepts (n : ℕ) : Type 0 where
-    pub all : nowhere ≡ stopFrom (accesses levels s) (levels .pins) 0
+    pub all : nowhere ≡ stopAll levels s
     pub pins : n ≡ levels .pins
     pub in-order : ordered (listIn s levels) ≡ true
     pub image-is : same (image (listIn s levels)) s ≡ true
 
   pub accepts : (n : ℕ) → gives n ≡ checkIn s levels → Accepts n
   unfolding verdict
-  accepts n e = go (stopFrom (accesses levels s) (levels .pins) 0) refl
+  accepts n e = go (stopAll levels s) refl
     where
-      told : (o b : Bool) → ordered (listIn s levels) ≡ o → same (image (listIn s levels)) s ≡ b → nowhere ≡ stopFrom (accesses levels s) (levels .pins) 0
+      told : (o b : Bool) → ordered (listIn s levels) ≡ o → same (image (listIn s levels)) s ≡ b → nowhere ≡ stopAll levels s
           → gives n ≡ cond (not o) (refuses 11 (firstLower (listIn s levels))) (cond (not b) (refuses 12 0) (gives (levels .pins))) → Accepts n
       told true true p q z f = record { all = z; pins = gives-same f; in-order = p; image-is = q }
       told true false p q z f = absurd (gives-refuses f)
@@ -102,60 +144,34 @@ module _ (s : List ℕ) (levels : Levels) where
       refused true r c q f = gives-refuses f
       refused false r c q f = gives-refuses f
 
-      go : (z : Stop) → z ≡ stopFrom (accesses levels s) (levels .pins) 0 → Accepts n
+      go : (z : Stop) → z ≡ stopAll levels s → Accepts n
       go nowhere z = told (ordered (listIn s levels)) (same (image (listIn s levels)) s) refl refl z (e ∙ check-all s levels (sym z))
       go (at i r c) z = absurd (refused (ordered (listIn s levels)) r c (firstLower (listIn s levels)) (e ∙ check-stopped s levels i r c (sym z)))
 
   pub accepted-count : (n : ℕ) → gives n ≡ checkIn s levels → length (listIn s levels) ≡ n
   accepted-count n e = let a = accepts n e in list-count levels s nowhere (a .all) ∙ sym (a .pins)
 
-  -- unpack's answer by check's, and what it leaves in the output
-  module _ (out : List ℕ) where
-    abbrev pub Unpacks : Outcome ℕ → List ℕ → Type 0
-    Unpacks answer now = (answer ≡ unpackIn s (length out) levels) × (now ≡ written (unpackIn s (length out) levels) (listIn s levels) out)
+  -- unpack's answer, where check refuses and where it accepts
+  pub unpack-refused : (room r c : ℕ) → refuses r c ≡ checkIn s levels → refuses r c ≡ unpackIn s room levels
+  unpack-refused room r c e = rw (← e)
 
-    pub unpack-refused : (r c : ℕ) → refuses r c ≡ checkIn s levels → Unpacks (refuses r c) out
-    unpack-refused r c e = rw (← e) (refl, refl)
+  pub unpack-listed : (room n : ℕ) → gives n ≡ checkIn s levels → roomFor room (length (listIn s levels)) ≡ unpackIn s room levels
+  unpack-listed room n e = rw (← e, accepted-count n e)
 
-    -- the list is put where there is room for it
-    pub unpack-listed : (n : ℕ) (xs : List ℕ) → gives n ≡ checkIn s levels → xs ≡ listIn s levels → (answer : Outcome ℕ) (now : List ℕ)
-        → answer ≡ roomFor (length out) (length xs) → now ≡ written (roomFor (length out) (length xs)) xs out → Unpacks answer now
-    unpack-listed n xs e x answer now a w =
-        let l : length xs ≡ n = ap length x ∙ accepted-count n e in
-        let p : roomFor (length out) (length xs) ≡ unpackIn s (length out) levels = rw (← e, l) in
-        (a ∙ p, w ∙ ap (λ (o : Outcome ℕ). written o xs out) p ∙ ap (λ (ys : List ℕ). written (unpackIn s (length out) levels) ys out) x)
+  -- then the list fills the buffer that was lent
+  pub accepted-whole : (n : ℕ) → gives n ≡ checkIn s levels → filledTo (levels .pins) (listIn s levels) ≡ listIn s levels
+  accepted-whole n e = filled-whole (levels .pins) (listIn s levels) (list-count levels s nowhere (accepts n e .all))
 
--- ---- the image
+-- ---- a pin count, as it is told
 
--- the room of a short list, and of any
-pub short-room : (n : ℕ) → n ≤ shortPins → roomOf n ≤ 4149
-short-room n h = omega (arith, height-least .least n 10 (omega arith))
+pub counted-gives : (o : Outcome ℕ) {n : ℕ} → gives (some n) ≡ counted o → gives n ≡ o
+counted-gives (gives m) e = cc
+counted-gives (refuses r c) e = absurd (gives-refuses e)
 
-pub any-room : (n : ℕ) → n < 2 ^ 16 → roomOf n ≤ maxBytes
-any-room n h = omega (arith, height-fits n h)
+pub counted-refuses : (o : Outcome ℕ) {r c : ℕ} → refuses r c ≡ counted o → refuses r c ≡ o
+counted-refuses (gives m) e = absurd (gives-refuses (sym e))
+counted-refuses (refuses q d) e = cc
 
--- it fits where there is room for any list as long
-module _ (xs : List ℕ) (few : length xs < 2 ^ 16) (within : Within 32 xs) (room : ℕ) (enough : roomOf (length xs) ≤ room) where
-  image-fits : length (image xs) ≤ room
-  image-fits =
-      omega (arith, rw (stored-levels .count xs) at (strip-small (storedValues xs) (stored-levels .within 32 xs within)))
-
-  packs-whole : roomFor room (length (image xs)) ≡ gives (length (image xs))
-  unfolding verdict
-  packs-whole = rw (le-ltb room (length (image xs)) image-fits)
-
-  pub image-packs : (r q : ℕ) → refuses r q ≡ roomFor room (length (image xs)) → ⊥
-  image-packs r q e = gives-refuses (sym (e ∙ packs-whole))
-
-  pub image-length : (n : ℕ) → gives n ≡ roomFor room (length (image xs)) → n ≡ length (image xs)
-  image-length n e = gives-same (e ∙ packs-whole)
-
-  -- it stands at the front of the buffer that was lent
-  pub image-front : (n : ℕ) (out now : List ℕ) → gives n ≡ roomFor room (length (image xs)) → now ≡ written (roomFor room (length (image xs))) (image xs) out
-      → (n ≤ length now) × (take n now ≡ image xs)
-  image-front n out now e w =
-      let l = image-length n e in
-      let is : now ≡ image xs ++ drop (length (image xs)) out = w ∙ ap (λ (o : Outcome ℕ). written o (image xs) out) packs-whole in (
-        rw is (omega (arith, length-append (image xs) (drop (length (image xs)) out))),
-        rw is (take-at (image xs) (drop (length (image xs)) out) n (sym l)),
-      )
+pub counted-some : (o : Outcome ℕ) → gives none ≡ counted o → ⊥
+counted-some (gives m) e = let z : _≡_ {A = ℕ} 0 1 = cc in omega arith
+counted-some (refuses r c) e = gives-refuses e

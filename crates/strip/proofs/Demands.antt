@@ -4,7 +4,7 @@ use mathlib.Core.Logic.{_↔_}
 use mathlib.Core.Bool.{true, not, cond}
 use mathlib.Core.List.{List, [], _∷_, _++_, map, append-nil}
 use mathlib.Core.Option.{Option, none, some}
-use Prim.Native.Nat.{ℕ, zero, suc, _+_, _*_, _/_, _%_, _≤_, _<_}
+use Prim.Native.Nat.{ℕ, zero, suc, _≤_, _<_}
 use native.Mathlib.Nat.{le-refl}
 use native.Mathlib.Decide.{decLt}
 use native.Mathlib.Omega.{arith}
@@ -18,29 +18,28 @@ use Rattle.codes.specs.Lists.{atFront}
 use Rattle.codes.specs.Codes.{Within}
 use Rattle.tree.specs.declared.nodes.Levels.{Levels}
 use Rattle.tree.specs.Lists.{ordered, smaller}
-use Rattle.tree.specs.Stored.{storedValues}
 use Rattle.tree.specs.Walks.{Answer, found, stopped, toward, path}
 use Rattle.tree.specs.Sweeps.{Sweep, different}
-use Rattle.tree.specs.Listing.{nowhere}
 use Rattle.tree.specs.Promises.{Held}
-use Rattle.tree.proofs.Promises.{stored-levels, listing-finds, sweep-finds}
+use Rattle.tree.proofs.Promises.{listing-finds, sweep-finds}
 use Rattle.strip.specs.declared.strip.Checked.{Checked}
 use Rattle.strip.specs.declared.strip.Checked.the-variants.{Pins, Refused}
 use Rattle.strip.specs.declared.strip.Swept.{Swept}
 use Rattle.strip.specs.declared.strip.Swept.the-variants as sweeping
 use Rattle.strip.specs.declared.walker.Walker.{Walker}
 use Rattle.strip.specs.Outcomes.{Outcome, gives, refuses, verdict, after}
-use Rattle.strip.specs.Layout.{maxPins, pinsOf, laidOut}
-use Rattle.strip.specs.Image.{Packable, stripOf, image}
-use Rattle.strip.specs.Opening.{levelsIn, opening}
+use Rattle.strip.specs.Layout.{maxPins}
+use Rattle.strip.specs.Image.{Packable, image}
+use Rattle.strip.specs.Opening.{opening}
 use Rattle.strip.specs.Calls.{packOf, written, packOutput, searchOf, sweepOf, sweepOutput, swept, listIn, checkIn, checkOf, checked, plainList, unpackOf, unpackOutput, movedBy, stepOf, nextOf, walkerStep, walkerAfter, walkerAfterSteps}
 use Rattle.strip.specs.Promises.{Opens}
 use Rattle.strip.specs.Demands.{PacksTo, UnpacksTo, Accepted, CheckAccepts, CodeAccepts, Demand2, SweepsAs, CodeSweepsAs, Demand3, WalkerLists}
-use Rattle.strip.proofs.Same.{same-lists, same-itself}
+use Rattle.codes.proofs.Lists.{same-lists, same-itself}
 use Rattle.strip.proofs.Verdicts.{gives-refuses, verdict-gives, verdict-passed}
 use Rattle.strip.proofs.Sweeps.{targets-follow}
 use Rattle.strip.proofs.Readings.{check-all}
-use Rattle.strip.proofs.Checks.{list-count, accepts}
+use Rattle.strip.proofs.OpenImages.{open-packable}
+use Rattle.strip.proofs.Checks.{accepts}
 use Rattle.strip.proofs.Promises.{image-opens, round-trip}
 
 -- ---- from a list to its strip
@@ -122,36 +121,10 @@ module _ (s : List ℕ) (levels : Levels) (o : opening s ≡ gives levels) (n : 
   xs = listIn s levels
 
   read-image : image xs ≡ s
-  read-image = same-lists (image xs) s (rw (accepts s levels n (sym e) .image-is) tt)
-
-  -- as many pins as the header tells
-  count : length xs ≡ pinsOf s
-  unfolding opening laidOut
-  count = list-count levels s nowhere (accepts s levels n (sym e) .all) ∙ ap (λ (l : Levels). l .pins) (sym (verdict-gives _ (levelsIn s) levels o))
-
-  has-pins : (pinsOf s ≡ 0 → ⊥)
-  unfolding opening
-  has-pins =
-      let a = verdict-passed _ _ _ _ _ _ o in
-      let b = verdict-passed _ _ _ _ _ _ (a .1) in
-      let c = verdict-passed _ _ _ _ _ _ (b .1) in
-      let d = verdict-passed (eqb (pinsOf s) 0) _ _ _ _ _ (c .1) in
-      eqb-false (pinsOf s) 0 (d .0)
-
-  few : length xs ≤ maxPins
-  unfolding stripOf
-  few =
-      let h : pinsOf (image xs) ≡ length (storedValues xs) / 256 % 256 * 256 + length (storedValues xs) % 256 = refl in
-      omega (arith, h, ap pinsOf read-image, count, stored-levels .count xs)
+  read-image = same-lists (image xs) s (accepts s levels n (sym e) .image-is)
 
   read-packable : Packable xs
-  unfolding listIn
-  read-packable = record {
-    some = omega (arith, count, has-pins);
-    few = few;
-    times = listing-finds .within levels s (levels .pins);
-    in-order = rw (accepts s levels n (sym e) .in-order) tt;
-  }
+  read-packable = let a = accepts s levels n (sym e) in open-packable s levels o (a .all) (a .in-order) read-image
 
 accepted : (s : List ℕ) → CheckAccepts s → Accepted s
 unfolding checkOf

@@ -1,4 +1,5 @@
--- The image of values in node order, read again: opening it finds the plan by which it was written.
+-- The image of values in node order, read again: opening it finds the plan by which it was written. Of a list's image, the levels hold
+-- what the list's tree stores.
 use mathlib.Core.Path.{_≡_, refl, sym, ap, _∙_}
 use mathlib.Core.Bool.{false}
 use mathlib.Core.List.{List, [], _∷_, _++_, append-assoc}
@@ -9,16 +10,18 @@ use lib.ListN.{length, drop, getD, length-append}
 use lib.Seq.{getD-drop, drop-at, take-at}
 use Rattle.codes.specs.declared.kinds.Kind.{Kind}
 use Rattle.codes.specs.declared.kinds.Kind.the-variants.{Fixed, Chunked, Refused}
-use Rattle.codes.specs.Codes.{kindOf, Within, Holds}
+use Rattle.codes.specs.Codes.{kindOf, part, Within, Holds}
 use Rattle.tree.specs.Shape.{height}
-use Rattle.tree.specs.Levels.{partOf}
+use Rattle.tree.specs.Stored.{storedValues}
+use Rattle.tree.specs.Levels.{codeOf, partOf, levelValues, Stores}
+use Rattle.tree.proofs.Promises.{stored-levels}
 use Rattle.strip.specs.Outcomes.{Outcome, Test, gives, verdict, after}
 use Rattle.strip.specs.Layout.{header, pinsOf, codeAt, lengthAt, partsStart, endAfter}
-use Rattle.strip.specs.Image.{valuesAt, codeFor, partFor, lengthFor, planned, entryFor, joined, stripOf}
+use Rattle.strip.specs.Image.{Packable, valuesAt, codeFor, partFor, lengthFor, planned, entryFor, joined, stripOf, image}
 use Rattle.strip.specs.Opening.{headerTests, isRefused, codeTests, lengthByEntries, lengthTest, levelTests, levelsIn, opening}
 use Rattle.strip.proofs.Pieces.{joined-split, length-joined}
 use Rattle.strip.proofs.Layouts.{end-same, laid-same}
-use Rattle.strip.proofs.Plans.{plan-at, length-strip, parts-end, level-short, level-holds, length-chosen, size-small}
+use Rattle.strip.proofs.Plans.{plan-pins, plan-at, length-strip, parts-end, level-short, level-holds, length-chosen, size-small}
 use Rattle.strip.proofs.Openings.{header-passes, codes-step, length-agrees, opening-steps}
 
 -- a number of four bytes, read back
@@ -121,3 +124,43 @@ module _ (values : List ℕ) (some : 1 ≤ length values) (few : length values <
       let split : front ++ joined (partFor values) h ≡ front ++ before ++ (partFor values d ++ r .0) = ap (λ (x : List ℕ). front ++ x) (r .1) ∙ sym (append-assoc front before (partFor values d ++ r .0)) in
       rw (e, k .starts, next, k .ends-at, add-sub-cancel-left at (lengthFor values d), split, drop-at (front ++ before) (partFor values d ++ r .0) at len)
       (take-at (partFor values d) (r .0) (lengthFor values d) refl)
+
+-- ---- the image of a list
+
+module _ (xs : List ℕ) (p : Packable xs) where
+  count : length (storedValues xs) ≡ length xs
+  count = stored-levels .count xs
+
+  some-values : 1 ≤ length (storedValues xs)
+  some-values = rw count (p .some)
+
+  few-values : length (storedValues xs) < 2 ^ 16
+  few-values = rw count (omega (arith, p .few))
+
+  pub within : Within 32 (storedValues xs)
+  within = stored-levels .within 32 xs (p .times)
+
+  pub list-opens : opening (image xs) ≡ gives (planned (storedValues xs))
+  list-opens = strip-opens (storedValues xs) some-values few-values within
+
+  -- the code of a level, by the plan
+  pub image-code : (d : ℕ) → d < height (length xs) → codeOf (planned (storedValues xs)) (suc d) ≡ codeFor (storedValues xs) d
+  image-code d l =
+      let e : suc d - 1 ≡ d = omega arith in
+      rw e (plan-at (storedValues xs) few-values d (rw count l) .code-is)
+
+  -- its levels hold what the tree of the list stores
+  pub image-stores : Stores (planned (storedValues xs)) (image xs) xs
+  unfolding partFor
+  image-stores = record {
+    pins-are = plan-pins (storedValues xs) (planned (storedValues xs)) refl ∙ count;
+    holds = holds;
+    parts-are = parts;
+  }
+    where
+      holds : (l : ℕ) → 1 ≤ l → l ≤ height (length xs) → Holds (kindOf (codeOf (planned (storedValues xs)) l)) (levelValues (storedValues xs) l)
+      holds (suc d) a b = rw (image-code d b) (level-holds (storedValues xs) within d)
+
+      parts : (l : ℕ) → 1 ≤ l → l ≤ height (length xs)
+          → partOf (planned (storedValues xs)) (image xs) l ≡ part (codeOf (planned (storedValues xs)) l) (levelValues (storedValues xs) l)
+      parts (suc d) a b = rw (image-code d b) (part-back (storedValues xs) some-values few-values within d (rw count b))

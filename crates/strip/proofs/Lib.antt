@@ -13,6 +13,5 @@ pub mod Pieces
 pub mod Plans
 pub mod Promises
 pub mod Readings
-pub mod Same
 pub mod Sweeps
 pub mod Verdicts

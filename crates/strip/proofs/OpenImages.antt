@@ -1,5 +1,5 @@
 -- The bytes of an open strip, put together again from its pin count, its levels' codes and their parts: where these are the image's, so
--- are the bytes.
+-- are the bytes. The other way round, an image has the levels that pack writes.
 use mathlib.Core.Path.{_≡_, refl, sym, ap, _∙_}
 use mathlib.Core.Bool.{true, _&&_, and-eq-true-iff}
 use mathlib.Core.List.{List, [], _∷_, _++_, append-assoc}
@@ -10,23 +10,26 @@ use native.Mathlib.Omega.{arith}
 use lib.Dec.{eqb}
 use lib.ListN.{length, take, drop, getD, length-drop, take-append-drop}
 use lib.Seq.{take-add, take-all, drop-drop, getD-drop, length-take-le}
-use borrow.Author.Tests.{ltb-false, eqb-true, not-false}
+use borrow.Author.Tests.{ltb-false, eqb-true, eqb-false, not-false}
 use Rattle.codes.specs.Codes.{part, Within}
 use Rattle.codes.specs.Choice.{chosen as chosenFor}
 use Rattle.codes.proofs.Bits.{within-drop}
 use Rattle.tree.specs.declared.nodes.Levels.{Levels}
 use Rattle.tree.specs.Shape.{height}
+use Rattle.tree.specs.Lists.{ordered}
 use Rattle.tree.specs.Stored.{storedValues}
-use Rattle.tree.specs.Levels.{codeOf, partOf}
-use Rattle.tree.specs.Listing.{Stop, nowhere, accesses, timesFrom, stopFrom, endOf}
+use Rattle.tree.specs.Levels.{codeOf, partOf, levelValues}
+use Rattle.tree.specs.Listing.{Stop, nowhere, accesses, endOf, timesAll, stopAll}
 use Rattle.tree.specs.Chosen.{allChosen}
-use Rattle.tree.proofs.Promises.{stored-levels, listing-finds, chosen-stored}
+use Rattle.tree.proofs.Promises.{stored-levels, listing-finds, chosen-stored, stored-chosen}
 use Rattle.strip.specs.Outcomes.{gives, Test, verdict}
-use Rattle.strip.specs.Layout.{version, twoAt, fourAt, header, pinsOf, entry, codeAt, lengthAt, partsStart, endAfter}
-use Rattle.strip.specs.Image.{valuesAt, codeFor, partFor, lengthFor, entryFor, joined, stripOf, image}
+use Rattle.strip.specs.Layout.{maxPins, version, twoAt, fourAt, header, pinsOf, entry, codeAt, lengthAt, partsStart, endAfter, laidOut}
+use Rattle.strip.specs.Image.{Packable, valuesAt, codeFor, partFor, lengthFor, planned, entryFor, joined, stripOf, image}
 use Rattle.strip.specs.Calls.{listIn}
 use Rattle.strip.specs.Opening.{hasMark, headerTests, codeTests, lengthByEntries, lengthTest, levelTests, levelsIn, opening}
 use Rattle.strip.proofs.Layouts.{laid-at, laid-pins, end-next, end-start, end-mono}
+use Rattle.strip.proofs.Plans.{level-code}
+use Rattle.strip.proofs.Images.{list-opens, image-code, image-stores}
 use Rattle.strip.proofs.Verdicts.{verdict-passed, verdict-gives}
 
 -- ---- what opening has found out
@@ -164,7 +167,7 @@ module _ (s : List ℕ) (levels : Levels) (o : Open s levels) (bytes : Within 8 
         ∙ rw (← (drop-drop (5 * height n) 7 s), take-append-drop (5 * height n) (drop 7 s), take-append-drop 7 s))
 
 -- where the levels are what pack writes for the values that they are decoded to
-pub open-image : (s : List ℕ) (levels : Levels) → opening s ≡ gives levels → Within 8 s → nowhere ≡ stopFrom (accesses levels s) (levels .pins) 0 → allChosen levels s ≡ true
+pub open-image : (s : List ℕ) (levels : Levels) → opening s ≡ gives levels → Within 8 s → nowhere ≡ stopAll levels s → allChosen levels s ≡ true
     → image (listIn s levels) ≡ s
 unfolding listIn partFor codeFor
 open-image s levels e bytes all chosen =
@@ -174,7 +177,7 @@ open-image s levels e bytes all chosen =
     (λ d h. level d (rw pins h) .0 ∙ code-at o d h) (λ d h. ap (λ (c : ℕ). part c (valuesAt (storedValues list) d)) (level d (rw pins h) .0) ∙ level d (rw pins h) .1)
   where
     list : List ℕ
-    list = timesFrom (accesses levels s) (levels .pins) 0
+    list = timesAll levels s
 
     count : length list ≡ levels .pins
     count = listing-finds .count (accesses levels s) (levels .pins) ∙ ap (λ (z : Stop). endOf z (levels .pins)) (sym all)
@@ -187,3 +190,53 @@ open-image s levels e bytes all chosen =
     code-at o d h =
         let q : suc d - 1 ≡ d = omega arith in
         rw (q, ← (o .levels-are)) (laid-at (pinsOf s) (codeAt s) (lengthAt s) (omega (arith, bytes 5, bytes 6)) d h .code-is)
+
+-- the other way round: where the bytes are a list's image, the levels are what pack writes
+pub image-chosen : (s : List ℕ) (levels : Levels) (xs : List ℕ) → Packable xs → opening s ≡ gives levels → image xs ≡ s → allChosen levels s ≡ true
+image-chosen s levels xs p e is =
+    let plan : planned (storedValues xs) ≡ levels = gives-same (sym (list-opens xs p) ∙ rw is e) in
+    rw (← plan, ← is) (stored-chosen (planned (storedValues xs)) (image xs) xs (image-stores xs p) codes)
+  where
+    gives-same : {a b : Levels} → gives a ≡ gives b → a ≡ b
+    gives-same q = cc
+
+    codes : (l : ℕ) → 1 ≤ l → l ≤ height (length xs) → codeOf (planned (storedValues xs)) l ≡ chosenFor (levelValues (storedValues xs) l) .code
+    codes (suc d) a b = image-code xs p d b ∙ level-code (storedValues xs) d
+
+-- ---- the list that is read from an open strip
+
+module _ (s : List ℕ) (levels : Levels) (e : opening s ≡ gives levels) (all : nowhere ≡ stopAll levels s) (in-order : ordered (listIn s levels) ≡ true)
+    (is : image (listIn s levels) ≡ s) where
+  abbrev xs : List ℕ
+  xs = listIn s levels
+
+  -- as many pins as the header tells
+  count : length xs ≡ pinsOf s
+  unfolding opening listIn laidOut
+  count =
+      listing-finds .count (accesses levels s) (levels .pins) ∙ ap (λ (z : Stop). endOf z (levels .pins)) (sym all)
+      ∙ ap (λ (l : Levels). l .pins) (sym (verdict-gives _ (levelsIn s) levels e))
+
+  has-pins : (pinsOf s ≡ 0 → ⊥)
+  unfolding opening
+  has-pins =
+      let a = verdict-passed _ _ _ _ _ _ e in
+      let b = verdict-passed _ _ _ _ _ _ (a .1) in
+      let c = verdict-passed _ _ _ _ _ _ (b .1) in
+      let d = verdict-passed (eqb (pinsOf s) 0) _ _ _ _ _ (c .1) in
+      eqb-false (pinsOf s) 0 (d .0)
+
+  pins-few : length xs ≤ maxPins
+  unfolding stripOf
+  pins-few =
+      let h : pinsOf (image xs) ≡ length (storedValues xs) / 256 % 256 * 256 + length (storedValues xs) % 256 = refl in
+      omega (arith, h, ap pinsOf is, count, stored-levels .count xs)
+
+  pub open-packable : Packable xs
+  unfolding listIn
+  open-packable = record {
+    some = omega (arith, count, has-pins);
+    few = pins-few;
+    times = listing-finds .within levels s (levels .pins);
+    in-order = rw in-order tt;
+  }

@@ -9,68 +9,34 @@ use native.Mathlib.Omega.{arith}
 use lib.Dec.{ltb}
 use lib.ListN.{length}
 use borrow.Author.Tests.{lt-ltb, le-ltb, eq-eqb, ne-eqb}
-use Rattle.codes.specs.Codes.{kindOf, part, Within, Holds}
+use Rattle.codes.specs.Codes.{kindOf, Holds}
 use Rattle.codes.specs.Choice.{size}
 use Rattle.codes.proofs.Promises.{best-choice}
 use Rattle.tree.specs.declared.nodes.Levels.{Levels}
 use Rattle.tree.specs.Shape.{height}
 use Rattle.tree.specs.Stored.{storedValues}
-use Rattle.tree.specs.Levels.{codeOf, partOf, levelValues}
+use Rattle.tree.specs.Levels.{codeOf, levelValues}
 use Rattle.tree.specs.Listing.{accesses}
 use Rattle.tree.specs.Promises.{Held}
 use Rattle.tree.specs.Walks.{Answer, found, stopped}
 use Rattle.tree.proofs.Promises.{stored-levels, contents, search-finds, access-opens, listing-finds}
 use Rattle.strip.specs.Outcomes.{Outcome, gives, refuses, follow, after, answerAfter}
-use Rattle.strip.specs.Image.{Packable, valuesAt, codeFor, partFor, planned, image}
+use Rattle.strip.specs.Image.{Packable, valuesAt, codeFor, planned, image}
 use Rattle.strip.specs.Opening.{opening}
 use Rattle.strip.specs.Calls.{accessIn, accessOf, searchOf, upToOf, repeatFrom, repeatOf, stepIn, stepOf}
 use Rattle.strip.specs.Promises.{RoomEnough, Opens, ImageOpens, ReadsBack, RoundTrip, RepeatLater, TimeOpens}
 use Rattle.strip.proofs.Counts.{smaller-next, upTo-all}
-use Rattle.strip.proofs.Images.{strip-opens, part-back}
+use Rattle.strip.proofs.Images.{within, list-opens, image-code, image-stores}
 use Rattle.strip.proofs.Layouts.{height-fits}
 use Rattle.strip.proofs.Readings.{positionOr1, repeat-lists, repeat-positive, gap-ordered}
-use Rattle.strip.proofs.Plans.{strip-small, plan-at, plan-pins, level-holds, values-within}
+use Rattle.strip.proofs.Plans.{strip-small, values-within}
 
 module _ (xs : List ℕ) (p : Packable xs) where
-  count : length (storedValues xs) ≡ length xs
-  count = stored-levels .count xs
-
-  some : 1 ≤ length (storedValues xs)
-  some = rw count (p .some)
-
-  few : length (storedValues xs) < 2 ^ 16
-  few = rw count (omega (arith, p .few))
-
-  within : Within 32 (storedValues xs)
-  within = stored-levels .within 32 xs (p .times)
-
   opened : opening (image xs) ≡ gives (planned (storedValues xs))
-  opened = strip-opens (storedValues xs) some few within
-
-  -- the code of a level, by the plan
-  code-is : (d : ℕ) → d < height (length xs) → codeOf (planned (storedValues xs)) (suc d) ≡ codeFor (storedValues xs) d
-  code-is d l =
-      let e : suc d - 1 ≡ d = omega arith in
-      rw e (plan-at (storedValues xs) few d (rw count l) .code-is)
+  opened = list-opens xs p
 
   held : Held (planned (storedValues xs)) (image xs) xs
-  unfolding partFor
-  held = record {
-    in-order = p .in-order;
-    times = p .times;
-    stores = record {
-      pins-are = plan-pins (storedValues xs) (planned (storedValues xs)) refl ∙ count;
-      holds = holds;
-      parts-are = parts;
-    };
-  }
-    where
-      holds : (l : ℕ) → 1 ≤ l → l ≤ height (length xs) → Holds (kindOf (codeOf (planned (storedValues xs)) l)) (levelValues (storedValues xs) l)
-      holds (suc d) a b = rw (code-is d b) (level-holds (storedValues xs) within d)
-
-      parts : (l : ℕ) → 1 ≤ l → l ≤ height (length xs)
-          → partOf (planned (storedValues xs)) (image xs) l ≡ part (codeOf (planned (storedValues xs)) l) (levelValues (storedValues xs) l)
-      parts (suc d) a b = rw (code-is d b) (part-back (storedValues xs) some few within d (rw count b))
+  held = record { in-order = p .in-order; times = p .times; stores = image-stores xs p }
 
   image-opened : Opens xs (planned (storedValues xs))
   unfolding codeFor
@@ -82,15 +48,15 @@ module _ (xs : List ℕ) (p : Packable xs) where
       fewest : (l code : ℕ) → 1 ≤ l → l ≤ height (length xs) → Holds (kindOf code) (levelValues (storedValues xs) l)
           → size (codeOf (planned (storedValues xs)) l) (levelValues (storedValues xs) l) ≤ size code (levelValues (storedValues xs) l)
       fewest (suc d) code a b h =
-          let best = best-choice (valuesAt (storedValues xs) d) (values-within (storedValues xs) within d) in
-          rw (code-is d b) (omega (arith, best .fewest code h, best .its-size))
+          let best = best-choice (valuesAt (storedValues xs) d) (values-within (storedValues xs) (within xs p) d) in
+          rw (image-code xs p d b) (omega (arith, best .fewest code h, best .its-size))
 
       on-tie : (l code : ℕ) → 1 ≤ l → l ≤ height (length xs) → Holds (kindOf code) (levelValues (storedValues xs) l)
           → size code (levelValues (storedValues xs) l) ≡ size (codeOf (planned (storedValues xs)) l) (levelValues (storedValues xs) l)
           → codeOf (planned (storedValues xs)) l ≤ code
       on-tie (suc d) code a b h e =
-          let best = best-choice (valuesAt (storedValues xs) d) (values-within (storedValues xs) within d) in
-          rw (code-is d b) (best .on-tie code h (rw (code-is d b) at e ∙ sym (best .its-size)))
+          let best = best-choice (valuesAt (storedValues xs) d) (values-within (storedValues xs) (within xs p) d) in
+          rw (image-code xs p d b) (best .on-tie code h (rw (image-code xs p d b) at e ∙ sym (best .its-size)))
 
   pins : planned (storedValues xs) .pins ≡ length xs
   pins = held .stores .pins-are
@@ -114,7 +80,7 @@ module _ (xs : List ℕ) (p : Packable xs) where
 
 pub room-enough : RoomEnough
 room-enough xs p =
-    let small = rw (count xs p) at (strip-small (storedValues xs) (within xs p)) in
+    let small = rw (stored-levels .count xs) at (strip-small (storedValues xs) (within xs p)) in
     (small, omega (arith, small, height-fits (length xs) (omega (arith, p .few)), p .few))
 
 pub image-opens : ImageOpens

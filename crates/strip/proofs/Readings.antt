@@ -14,12 +14,12 @@ use borrow.Author.Tests.{lt-ltb, le-ltb}
 use Rattle.tree.specs.declared.nodes.Levels.{Levels}
 use Rattle.tree.specs.Lists.{ordered}
 use Rattle.tree.specs.Walks.{Answer, found, stopped}
-use Rattle.tree.specs.Listing.{Stop, nowhere, at, accesses, timesFrom, stopFrom}
+use Rattle.tree.specs.Listing.{Stop, nowhere, at, accesses, timesFrom, stopFrom, timesAll, stopAll}
 use Rattle.tree.proofs.Orders.{ordered-head}
 use Rattle.strip.specs.Lists.{firstLower, gapFrom, firstGap}
 use Rattle.strip.specs.Outcomes.{Outcome, gives, refuses, Test, test, verdict, after}
 use Rattle.strip.specs.Calls.{timeOr0, refusalTest, fallsAt, positionsTests, listIn, imageTest, checkIn, nearAt, repeatFrom}
-use Rattle.strip.specs.Read.{firstNear, fallsTest, gapOr}
+use Rattle.strip.specs.Read.{firstNear, gapOr}
 use Rattle.strip.proofs.Gaps.{near-here, near-later, near-one, near-some, near-positive, near-at, lower-near, not-ordered, is-ordered}
 
 -- what ends a reading after its last position
@@ -151,7 +151,7 @@ module _ (answer : ℕ → Answer) {A : Type 0} (rest : List Test) (a : A) where
       go (found t j) true e = refl
       go (found t j) false e = e
 
-falls-first : {A : Type 0} (xs : List ℕ) (end : Outcome (Option ℕ)) (f : Option ℕ → Outcome A)
+pub falls-first : {A : Type 0} (xs : List ℕ) (end : Outcome (Option ℕ)) (f : Option ℕ → Outcome A)
     → after (gapOr 0 xs end) f ≡ cond (not (ordered xs)) (refuses 11 (firstLower xs)) (after end f)
 falls-first xs end f = elim (decLt (firstNear 0 xs) (length xs)) [
   | yes l ↦
@@ -159,23 +159,27 @@ falls-first xs end f = elim (decLt (firstNear 0 xs) (length xs)) [
   | no l ↦ rw (is-ordered xs (rw (lower-near xs) (omega arith)), le-ltb (firstNear 0 xs) (length xs) (omega arith))
 ]
 
+-- 11 for the times of the positions from 0 on
+abbrev fallsTest : List ℕ → Test
+fallsTest xs = test (not (ordered xs)) 11 (firstLower xs)
+
 module _ (s : List ℕ) (levels : Levels) where
-  check-lists : checkIn s levels
+  pub check-lists : checkIn s levels
       ≡ cond (not (ordered (listIn s levels))) (refuses 11 (firstLower (listIn s levels)))
-      (after (ending (stopFrom (accesses levels s) (levels .pins) 0)) (λ _. verdict (imageTest s levels ∷ []) (levels .pins)))
+      (after (ending (stopAll levels s)) (λ _. verdict (imageTest s levels ∷ []) (levels .pins)))
   unfolding listIn
   check-lists =
       check-repeats (accesses levels s) (imageTest s levels ∷ []) (levels .pins) (levels .pins) 0
       ∙ ap (λ (o : Outcome (Option ℕ)). after o (λ _. verdict (imageTest s levels ∷ []) (levels .pins))) (repeat-lists (accesses levels s) 0 (levels .pins))
-      ∙ falls-first (timesFrom (accesses levels s) (levels .pins) 0) (ending (stopFrom (accesses levels s) (levels .pins) 0)) (λ _. verdict (imageTest s levels ∷ []) (levels .pins))
+      ∙ falls-first (timesAll levels s) (ending (stopAll levels s)) (λ _. verdict (imageTest s levels ∷ []) (levels .pins))
 
   -- every position has a time
-  pub check-all : stopFrom (accesses levels s) (levels .pins) 0 ≡ nowhere → checkIn s levels ≡ verdict (fallsTest (listIn s levels) ∷ imageTest s levels ∷ []) (levels .pins)
+  pub check-all : stopAll levels s ≡ nowhere → checkIn s levels ≡ verdict (fallsTest (listIn s levels) ∷ imageTest s levels ∷ []) (levels .pins)
   unfolding verdict
   check-all e = check-lists ∙ rw e
 
   -- one is refused
-  pub check-stopped : (i r c : ℕ) → stopFrom (accesses levels s) (levels .pins) 0 ≡ at i r c
+  pub check-stopped : (i r c : ℕ) → stopAll levels s ≡ at i r c
       → checkIn s levels ≡ verdict (fallsTest (listIn s levels) ∷ test true r c ∷ []) 0
   unfolding verdict
   check-stopped i r c e = check-lists ∙ rw e

@@ -11,8 +11,8 @@ use Rattle.tree.specs.declared.nodes.Levels.{Levels}
 use Rattle.tree.specs.Lists.{ordered}
 use Rattle.tree.specs.Times.{timesIn}
 use Rattle.tree.specs.Walks.{Answer, found, stopped, searchAnswer}
-use Rattle.tree.specs.Sweeps.{Sweep, sweep}
-use Rattle.tree.specs.Listing.{accesses, timesFrom}
+use Rattle.tree.specs.Sweeps.{Sweep, sweepAll}
+use Rattle.tree.specs.Listing.{accesses, timesAll}
 use Rattle.strip.specs.declared.strip.Packed.{Packed}
 use Rattle.strip.specs.declared.strip.Packed.the-variants as packing
 use Rattle.strip.specs.declared.strip.Accessed.{Accessed}
@@ -119,7 +119,7 @@ sweepAfter o f = follow (λ r c. record { positions = []; answer = stopped r c }
 
 -- 15, 16, then one target after the other, with so many answers lent
 abbrev pub sweepIn : List ℕ → List ℕ → ℕ → Levels → Sweep
-sweepIn s ts room levels = sweepAfter (verdict (sweepTests ts room) levels) (λ l. sweep (l .pins) (timesIn l s) ts)
+sweepIn s ts room levels = sweepAfter (verdict (sweepTests ts room) levels) (λ l. sweepAll l s ts)
 
 -- the sweep, which opens first
 unfoldable pub sweepOf : List ℕ → List ℕ → ℕ → Sweep
@@ -161,7 +161,7 @@ positionsTests answer (suc k) i = positionTests answer i ++ positionsTests answe
 
 -- the list so read
 unfoldable pub listIn : List ℕ → Levels → List ℕ
-listIn s levels = timesFrom (accesses levels s) (levels .pins) 0
+listIn s levels = timesAll levels s
 
 -- bytes other than the list's image
 abbrev pub imageTest : List ℕ → Levels → Test

@@ -9,6 +9,10 @@ use Rattle.tree.specs.Shape.{height}
 abbrev pub maxPins : ℕ
 maxPins = 65535
 
+-- the most pins of a short list, which is worked on in short arrays
+abbrev pub shortPins : ℕ
+shortPins = 1023
+
 abbrev pub maxHeight : ℕ
 maxHeight = 16
 

@@ -13,6 +13,7 @@ use Rattle.strip.specs.declared.opening.Opening.{Opening}
 use Rattle.strip.specs.Outcomes.{Outcome, gives, refuses}
 use Rattle.strip.specs.Refusals.{refusalNumber, carried}
 use Rattle.strip.specs.Layout.{pinsOf, partsStart}
+use Rattle.strip.specs.Opening.{opening}
 
 abbrev pub statusOf : {A : Type 0} → Status → A → Outcome A
 statusOf status.Open a = gives a
@@ -20,6 +21,10 @@ statusOf (status.Refused r) a = refuses (refusalNumber r) (carried r)
 
 abbrev pub opened : Opening → Outcome Levels
 opened r = statusOf (r .status) (r .levels)
+
+-- a strip is open, with these levels, which fit its bytes
+abbrev pub IsOpen : Levels → List ℕ → Type 0
+IsOpen levels s = Fits levels s × (opening s ≡ gives levels)
 
 -- the levels of a strip that is open fit its bytes
 abbrev pub FitsOpen : Status → Levels → List ℕ → Type 0

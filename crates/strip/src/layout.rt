@@ -4,12 +4,6 @@ use tree::Levels;
 ghost use mathlib.Core.Path.{_≡_};
 ghost use Rattle.strip.specs.Layout.{noLevels};
 
-// The most pins of a list that is short: it is worked on in arrays of this length.
-pub(crate) const SHORT_PINS: usize = 1023;
-
-// A number of bytes that is enough for a short list's strip, of 10 levels at most.
-pub(crate) const SHORT_BYTES: usize = 7 + 5 * 10 + 4 * SHORT_PINS;
-
 // The levels of n pins before any is entered. The parts start after the header and the level entries.
 pub(crate) fn no_levels(n: usize) -> Levels
     ensures { λ r. ⌜ r ≡ noLevels n ⌝ }

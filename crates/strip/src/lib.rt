@@ -1,18 +1,19 @@
 // Pin strips: their bytes, and the calls on them.
-mod checking; // check and unpack of an open strip
 mod layout; // where levels lie
 mod lists; // lists of times
 mod numbers; // numbers of several bytes
 mod opening; // the tests that every reading call makes first
 mod packing; // the plan of an image, and whether there is room for it
+mod reading; // check, unpack and repeat of an open strip
 mod refusals; // why a call is refused
-mod repeating; // repeat of an open strip
 mod strip; // the strip type, with the calls
 mod sweeping; // sweep of an open strip
 mod walker; // the pin walker
 mod writing; // the image's bytes
 
 pub use refusals::Refusal;
+pub use refusals::carried;
+pub use refusals::number;
 pub use strip::Accessed;
 pub use strip::Checked;
 pub use strip::Packed;
@@ -20,6 +21,7 @@ pub use strip::Repeated;
 pub use strip::Searched;
 pub use strip::Strip;
 pub use strip::Swept;
+pub use tree::Ranked;
 pub use walker::Moved;
 pub use walker::Stepped;
 pub use walker::Walker;

@@ -1,5 +1,4 @@
 // Packing: the plan of an image, then the image where there is room for it.
-use super::layout::SHORT_PINS;
 use super::layout::no_levels;
 use super::refusals::Refusal;
 use super::strip::Packed;
@@ -11,9 +10,10 @@ ghost use Prim.Native.Nat.{_+_, _*_, _^_, _<_, _≤_};
 ghost use lib.Dec.{T};
 ghost use lib.ListN.{length};
 ghost use Rattle.tree.specs.Lists.{ordered};
-ghost use Rattle.strip.specs.Image.{planned, stripOf, image};
+ghost use Rattle.strip.specs.Image.{planned, stripOf};
 ghost use Rattle.strip.specs.Calls.{packed, roomFor, written};
-ghost use Rattle.strip.specs.Written.{shortPins};
+ghost use Rattle.strip.specs.Layout.{shortPins};
+ghost use Rattle.strip.specs.Written.{packIn, packOver};
 
 // Where the levels of the image lie: each takes the code with fewest bits.
 fn plan(values: &[u32]) -> Levels
@@ -55,8 +55,8 @@ fn pack_values(out: &mut [u8], work: &mut [u32], values: &[u32]) -> Packed
 fn pack_in(out: &mut [u8], values: &mut [u32], work: &mut [u32], times: &[u32]) -> Packed
     requires { ⌜ T (ordered (now times)) × (length (now times) < 2 ^ 16) ⌝ }
     requires { ⌜ (length (now times) ≤ length (now values)) × (length (now times) + 1 ≤ 2 * length (now work)) ⌝ }
-    ensures { λ r. ⌜ packed r ≡ roomFor (length (now (out .entry))) (length (image (now (times .entry)))) ⌝ }
-    ensures { λ r. ⌜ now (out .exit) ≡ written (roomFor (length (now (out .entry))) (length (image (now (times .entry))))) (image (now (times .entry))) (now (out .entry)) ⌝ }
+    ensures { λ r. ⌜ packed r ≡ packIn (now (times .entry)) (length (now (out .entry))) ⌝ }
+    ensures { λ r. ⌜ now (out .exit) ≡ packOver (now (times .entry)) (now (out .entry)) ⌝ }
 {
     let n = times.len();
     tree::construct(values, times);
@@ -66,32 +66,37 @@ fn pack_in(out: &mut [u8], values: &mut [u32], work: &mut [u32], times: &[u32]) 
 // Packs a short list in short arrays.
 fn pack_short(out: &mut [u8], times: &[u32]) -> Packed
     requires { ⌜ T (ordered (now times)) × (length (now times) ≤ shortPins) ⌝ }
-    ensures { λ r. ⌜ packed r ≡ roomFor (length (now (out .entry))) (length (image (now (times .entry)))) ⌝ }
-    ensures { λ r. ⌜ now (out .exit) ≡ written (roomFor (length (now (out .entry))) (length (image (now (times .entry))))) (image (now (times .entry))) (now (out .entry)) ⌝ }
+    ensures { λ r. ⌜ packed r ≡ packIn (now (times .entry)) (length (now (out .entry))) ⌝ }
+    ensures { λ r. ⌜ now (out .exit) ≡ packOver (now (times .entry)) (now (out .entry)) ⌝ }
 {
-    let mut values = [0u32; SHORT_PINS];
-    let mut work = [0u32; SHORT_PINS / 2 + 1];
+    let mut values = [0u32; Strip::SHORT_PINS];
+    let mut work = [0u32; Strip::SHORT_PINS / 2 + 1];
     pack_in(out, &mut values, &mut work, times)
 }
 
 // Packs any list in arrays for the longest.
 fn pack_long(out: &mut [u8], times: &[u32]) -> Packed
     requires { ⌜ T (ordered (now times)) × (length (now times) < 2 ^ 16) ⌝ }
-    ensures { λ r. ⌜ packed r ≡ roomFor (length (now (out .entry))) (length (image (now (times .entry)))) ⌝ }
-    ensures { λ r. ⌜ now (out .exit) ≡ written (roomFor (length (now (out .entry))) (length (image (now (times .entry))))) (image (now (times .entry))) (now (out .entry)) ⌝ }
+    ensures { λ r. ⌜ packed r ≡ packIn (now (times .entry)) (length (now (out .entry))) ⌝ }
+    ensures { λ r. ⌜ now (out .exit) ≡ packOver (now (times .entry)) (now (out .entry)) ⌝ }
 {
     let mut values = [0u32; Strip::MAX_PINS];
     let mut work = [0u32; Strip::MAX_PINS / 2 + 1];
     pack_in(out, &mut values, &mut work, times)
 }
 
-// Packs an ordered list, where the output has room. A short one does not pay for the longest.
-pub(crate) fn pack_list(out: &mut [u8], times: &[u32]) -> Packed
+// Packs an ordered list, where the output has room. `most` tells the arrays: `SHORT_PINS` the short ones, any other number those for the
+// longest list, which a list of more pins takes. The compiler joins no function with large arrays into one that calls itself: so a short
+// list takes a short stack.
+pub(crate) fn pack_list(out: &mut [u8], times: &[u32], most: usize) -> Packed
     requires { ⌜ T (ordered (now times)) × (length (now times) < 2 ^ 16) ⌝ }
-    ensures { λ r. ⌜ packed r ≡ roomFor (length (now (out .entry))) (length (image (now (times .entry)))) ⌝ }
-    ensures { λ r. ⌜ now (out .exit) ≡ written (roomFor (length (now (out .entry))) (length (image (now (times .entry))))) (image (now (times .entry))) (now (out .entry)) ⌝ }
+    ensures { λ r. ⌜ packed r ≡ packIn (now (times .entry)) (length (now (out .entry))) ⌝ }
+    ensures { λ r. ⌜ now (out .exit) ≡ packOver (now (times .entry)) (now (out .entry)) ⌝ }
 {
-    if times.len() <= SHORT_PINS {
+    if times.len() > most {
+        return pack_list(out, times, Strip::MAX_PINS);
+    }
+    if most == Strip::SHORT_PINS {
         return pack_short(out, times);
     }
     pack_long(out, times)

@@ -1,22 +1,26 @@
 // The strip type, with the calls. No call requires anything.
-use super::checking::check_open;
-use super::checking::unpack_open;
 use super::lists::first_lower;
 use super::opening::Status;
 use super::opening::opening_of;
 use super::packing::pack_list;
+use super::reading::Asked;
+use super::reading::Told;
+use super::reading::read_open;
 use super::refusals::Refusal;
 use super::refusals::of_walk;
-use super::repeating::repeat_open;
 use super::sweeping::sweep_open;
 use super::walker::Moved;
 use super::walker::Stepped;
 use tree::GREATEST;
 use tree::Levels;
+use tree::Ranked;
 ghost use mathlib.Core.Path.{_≡_};
+ghost use Prim.Native.Nat.{ℕ};
 ghost use lib.ListN.{length};
-ghost use Rattle.tree.specs.Shape.{height, rootPlace};
+ghost use Rattle.tree.specs.Shape.{height, rootPlace, ranked};
 ghost use Rattle.tree.specs.Levels.{Fits};
+ghost use Rattle.strip.specs.Outcomes.{Outcome};
+ghost use Rattle.strip.specs.Read.{told, counted};
 ghost use Rattle.strip.specs.Calls.{packOf, packOutput, packed, accessOf, accessIn, accessed, searchOf, searchIn, upToOf, searched, sweepOf, sweepOutput, swept, checkOf, unpackOf, unpackOutput, checked, repeatOf, repeated, stepIn, movedBy, stepOf, nextOf, stepped};
 
 pub struct Strip {}
@@ -110,14 +114,36 @@ fn search_open(s: &[u8], levels: Levels, target: u32) -> Searched
     }
 }
 
+// What check and unpack are told. None is never told; 0 stands there so that the match is whole, and nothing is promised of it.
+fn checked_of(result: Told) -> Checked
+    ensures { λ r. ⌜ ((o : Outcome ℕ) → told result ≡ counted o → checked r ≡ o) ⌝ }
+{
+    match result {
+        Told::Number(n) => Checked::Pins(n),
+        Told::None => Checked::Pins(0),
+        Told::Refused(r) => Checked::Refused(r),
+    }
+}
+
+// What repeat is told.
+fn repeated_of(result: Told) -> Repeated
+    ensures { λ r. ⌜ repeated r ≡ told result ⌝ }
+{
+    match result {
+        Told::Number(i) => Repeated::First(i),
+        Told::None => Repeated::None,
+        Told::Refused(r) => Repeated::Refused(r),
+    }
+}
+
 impl Strip {
     // The greatest pin count and the greatest height.
     pub const MAX_PINS: usize = 65535;
 
     pub const MAX_HEIGHT: usize = 16;
 
-    // A number of bytes that is enough for any list's strip: the header, the level entries, and 4 bytes a pin.
-    pub const MAX_BYTES: usize = 7 + 5 * Strip::MAX_HEIGHT + 4 * Strip::MAX_PINS;
+    // The most pins of a list that is short: it is worked on in arrays of this length.
+    pub(crate) const SHORT_PINS: usize = 1023;
 
     // The height of n pins.
     pub fn height(n: usize) -> usize
@@ -131,6 +157,13 @@ impl Strip {
         ensures { λ r. ⌜ r ≡ rootPlace n ⌝ }
     {
         tree::root_place(n)
+    }
+
+    // The position of node v in a list of n, or that v is no node.
+    pub fn rank(n: usize, v: usize) -> Ranked
+        ensures { λ r. ⌜ r ≡ ranked n v ⌝ }
+    {
+        tree::rank(n, v)
     }
 
     // Writes the image of a list to the front of the output.
@@ -149,7 +182,7 @@ impl Strip {
         if lower < n {
             return Packed::Refused(Refusal::ListFalls(lower));
         }
-        pack_list(out, times)
+        pack_list(out, times, Strip::SHORT_PINS)
     }
 
     // The time at position i.
@@ -213,7 +246,16 @@ impl Strip {
         let opening = opening_of(s);
         let status = opening.status;
         match status {
-            Status::Open => check_open(s, opening.levels),
+            Status::Open => {
+                let mut no_output = [0u32; 0];
+                checked_of(read_open(
+                    &mut no_output,
+                    s,
+                    opening.levels,
+                    Asked::Check,
+                    Strip::SHORT_PINS,
+                ))
+            }
             Status::Refused(r) => Checked::Refused(r),
         }
     }
@@ -226,7 +268,13 @@ impl Strip {
         let opening = opening_of(s);
         let status = opening.status;
         match status {
-            Status::Open => unpack_open(out, s, opening.levels),
+            Status::Open => checked_of(read_open(
+                out,
+                s,
+                opening.levels,
+                Asked::Unpack,
+                Strip::SHORT_PINS,
+            )),
             Status::Refused(r) => Checked::Refused(r),
         }
     }
@@ -238,7 +286,16 @@ impl Strip {
         let opening = opening_of(s);
         let status = opening.status;
         match status {
-            Status::Open => repeat_open(s, opening.levels, r),
+            Status::Open => {
+                let mut no_output = [0u32; 0];
+                repeated_of(read_open(
+                    &mut no_output,
+                    s,
+                    opening.levels,
+                    Asked::Repeat(r),
+                    Strip::SHORT_PINS,
+                ))
+            }
             Status::Refused(why) => Repeated::Refused(why),
         }
     }

@@ -1,6 +1,8 @@
--- The answers of the calls as three numbers.
+-- The answers of the calls as numbers: three, but for rank.
 use mathlib.Core.Option.{Option, none, some}
 use Prim.Native.Nat.{ℕ}
+use Rattle.tree.specs.declared.shape.Ranked.{Ranked}
+use Rattle.tree.specs.declared.shape.Ranked.the-variants.{At, NoNode}
 use Rattle.tree.specs.Walks as walks
 use Rattle.strip.specs.declared.refusals.Refusal.{Refusal}
 use Rattle.strip.specs.Refusals.{refusalNumber, carried}
@@ -31,3 +33,8 @@ ofRepeat (refuses r c) = record { refusal = r; value = c; nodes = 0 }
 abbrev pub ofStep : Option walks.Answer → Answer
 ofStep none = record { refusal = 0; value = 0; nodes = 0 }
 ofStep (some a) = ofWalk a
+
+-- of rank: a position, or n where there is no such node
+abbrev pub positionOr : ℕ → Ranked → ℕ
+positionOr n (At i) = i
+positionOr n NoNode = n

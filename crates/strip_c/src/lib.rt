@@ -1,19 +1,21 @@
 // The calls on strips for programs in other languages, on numbers and slices. include/gemcotton.h declares them.
 ghost use mathlib.Core.Path.{_≡_};
 ghost use lib.ListN.{length};
-ghost use Rattle.tree.specs.Shape.{height, rootPlace};
+ghost use Rattle.tree.specs.Shape.{height, rootPlace, ranked};
 ghost use Rattle.strip.specs.Calls.{packOf, packOutput, accessOf, searchOf, searched, upToOf, sweepOf, sweepOutput, checkOf, checked, unpackOf, unpackOutput, repeatOf, stepOf, nextOf};
-ghost use Rattle.strip.specs.Refusals.{refusalNumber, carried};
-ghost use Rattle.strip_c.specs.Numbers.{ofRefusal, ofWalk, ofOutcome, ofRepeat, ofStep};
+ghost use Rattle.strip_c.specs.Numbers.{ofRefusal, ofWalk, ofOutcome, ofRepeat, ofStep, positionOr};
 use strip::Accessed;
 use strip::Checked;
 use strip::Packed;
+use strip::Ranked;
 use strip::Refusal;
 use strip::Repeated;
 use strip::Searched;
 use strip::Stepped;
 use strip::Strip;
 use strip::Swept;
+use strip::carried;
+use strip::number;
 
 // 0, what is given and the nodes opened; or the number of a refusal, what it carries and 0.
 #[repr(C)]
@@ -30,54 +32,6 @@ fn given(value: usize, nodes: usize) -> Answer
         refusal: 0,
         value: value,
         nodes: nodes,
-    }
-}
-
-// 01's number for a refusal.
-fn number(r: Refusal) -> usize
-    ensures { λ x. ⌜ x ≡ refusalNumber r ⌝ }
-{
-    match r {
-        Refusal::Empty => 1,
-        Refusal::TooMany => 2,
-        Refusal::ListFalls(_) => 3,
-        Refusal::Short(_) => 4,
-        Refusal::Cut => 5,
-        Refusal::Mark => 6,
-        Refusal::Version => 7,
-        Refusal::Code(_) => 8,
-        Refusal::Fetch(_) => 9,
-        Refusal::Time(_) => 10,
-        Refusal::TimesFall(_) => 11,
-        Refusal::Image => 12,
-        Refusal::Length => 13,
-        Refusal::Position => 14,
-        Refusal::Answers => 15,
-        Refusal::TargetsFall(_) => 16,
-    }
-}
-
-// What a refusal carries.
-fn carried(r: Refusal) -> usize
-    ensures { λ x. ⌜ x ≡ carried r ⌝ }
-{
-    match r {
-        Refusal::Empty => 0,
-        Refusal::TooMany => 0,
-        Refusal::ListFalls(i) => i,
-        Refusal::Short(needed) => needed,
-        Refusal::Cut => 0,
-        Refusal::Mark => 0,
-        Refusal::Version => 0,
-        Refusal::Code(level) => level,
-        Refusal::Fetch(node) => node,
-        Refusal::Time(node) => node,
-        Refusal::TimesFall(i) => i,
-        Refusal::Image => 0,
-        Refusal::Length => 0,
-        Refusal::Position => 0,
-        Refusal::Answers => 0,
-        Refusal::TargetsFall(i) => i,
     }
 }
 
@@ -123,6 +77,17 @@ pub extern "C" fn gemcotton_root_place(n: usize) -> usize
     ensures { λ r. ⌜ r ≡ rootPlace n ⌝ }
 {
     Strip::root_place(n)
+}
+
+#[no_mangle]
+pub extern "C" fn gemcotton_rank(n: usize, node: usize) -> usize
+    ensures { λ r. ⌜ r ≡ positionOr n (ranked n node) ⌝ }
+{
+    let rank = Strip::rank(n, node);
+    match rank {
+        Ranked::At(i) => i,
+        Ranked::NoNode => n,
+    }
 }
 
 #[no_mangle]

@@ -1,4 +1,4 @@
--- `check` meets its contract.
+-- Check's answer after the opening, which is never none.
 use Rattle.strip.specs.Calls.{checkOf}
 use Rattle.strip.proofs.Openings.{opening-is}
 use borrow.Author.Needs.{needs}
@@ -11,15 +11,21 @@ opening-of-requires c κs = search needs
 enum-told : tie.Need-enum-told
 enum-told c = search needs
 
-check-open-requires : tie.Need-check-open-requires
-check-open-requires c κs = let o = c .before .before .opening-of in (rw (c .enum-told .given .1) at (o .ensures .1), opening-is (c .before .before .before .before .args .s .now) (o .result) _ (o .ensures .0) (c .enum-told .given .1))
+slice-aggregate-read-open : tie.Need-slice-aggregate-read-open
+slice-aggregate-read-open c = search needs
+
+read-open-requires : tie.Need-read-open-requires
+read-open-requires c κs = let o = c .before .before .before .opening-of in (rw (c .before .enum-told .given .1) at (o .ensures .1), opening-is (c .before .before .before .before .before .args .s .now) (c .before .before .before .opening-of .result) _ (c .before .before .before .opening-of .ensures .0) (c .before .enum-told .given .1))
+
+checked-of-requires : tie.Need-checked-of-requires
+checked-of-requires c κs = search needs
 
 enum-known-status : tie.Need-enum-known-status
 enum-known-status c = search needs
 
 returns : tie.Need-returns
 unfolding checkOf
-returns c = rw (opening-is (c .before .before .before .before .before .args .s .now) (c .before .before .before .opening-of .result) _ (c .before .before .before .opening-of .ensures .0) (c .before .enum-told .given .1)) (c .check-open .ensures)
+returns c = rw (opening-is (c .before .before .before .before .before .before .before .before .args .s .now) (c .before .before .before .before .before .before .opening-of .result) _ (c .before .before .before .before .before .before .opening-of .ensures .0) (c .before .before .before .before .enum-told .given .1)) (c .checked-of .ensures _ (c .before .before .read-open .ensures .0))
 
 returns-2 : tie.Need-returns-2
 unfolding checkOf
@@ -31,7 +37,9 @@ check-spec =
     (tie.spec
     opening-of-requires
     enum-told
-    check-open-requires
+    slice-aggregate-read-open
+    read-open-requires
+    checked-of-requires
     enum-known-status
     returns
     returns-2)

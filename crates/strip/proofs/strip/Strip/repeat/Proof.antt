@@ -1,4 +1,5 @@
--- `repeat` meets its contract.
+-- Repeat's answer after the opening.
+use mathlib.Core.Path.{_∙_}
 use Rattle.strip.specs.Calls.{repeatOf}
 use Rattle.strip.proofs.Openings.{opening-is}
 use borrow.Author.Needs.{needs}
@@ -11,15 +12,21 @@ opening-of-requires c κs = search needs
 enum-told : tie.Need-enum-told
 enum-told c = search needs
 
-repeat-open-requires : tie.Need-repeat-open-requires
-repeat-open-requires c κs = rw (c .enum-told .given .1) at (c .before .before .opening-of .ensures .1)
+slice-aggregate-read-open : tie.Need-slice-aggregate-read-open
+slice-aggregate-read-open c = search needs
+
+read-open-requires : tie.Need-read-open-requires
+read-open-requires c κs = let o = c .before .before .before .opening-of in (rw (c .before .enum-told .given .1) at (o .ensures .1), opening-is (c .before .before .before .before .before .args .s .now) (c .before .before .before .opening-of .result) _ (c .before .before .before .opening-of .ensures .0) (c .before .enum-told .given .1))
+
+repeated-of-requires : tie.Need-repeated-of-requires
+repeated-of-requires c κs = search needs
 
 enum-known-status : tie.Need-enum-known-status
 enum-known-status c = search needs
 
 returns : tie.Need-returns
 unfolding repeatOf
-returns c = rw (opening-is (c .before .before .before .before .before .args .s .now) (c .before .before .before .opening-of .result) _ (c .before .before .before .opening-of .ensures .0) (c .before .enum-told .given .1)) (c .repeat-open .ensures)
+returns c = rw (opening-is (c .before .before .before .before .before .before .before .before .args .s .now) (c .before .before .before .before .before .before .opening-of .result) _ (c .before .before .before .before .before .before .opening-of .ensures .0) (c .before .before .before .before .enum-told .given .1)) (c .repeated-of .ensures ∙ c .before .before .read-open .ensures .0)
 
 returns-2 : tie.Need-returns-2
 unfolding repeatOf
@@ -31,7 +38,9 @@ repeat-spec =
     (tie.spec
     opening-of-requires
     enum-told
-    repeat-open-requires
+    slice-aggregate-read-open
+    read-open-requires
+    repeated-of-requires
     enum-known-status
     returns
     returns-2)

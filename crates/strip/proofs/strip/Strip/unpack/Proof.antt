@@ -1,4 +1,4 @@
--- `unpack` meets its contract.
+-- Unpack's answer and the output after the opening; a strip that does not open leaves the output.
 use mathlib.Core.Path.{refl}
 use Rattle.strip.specs.Calls.{checkOf, plainList, unpackOf, unpackOutput}
 use Rattle.strip.proofs.Openings.{opening-is}
@@ -12,8 +12,11 @@ opening-of-requires c κs = search needs
 enum-told : tie.Need-enum-told
 enum-told c = search needs
 
-unpack-open-requires : tie.Need-unpack-open-requires
-unpack-open-requires c κs = let o = c .before .before .before .opening-of in (rw (c .before .enum-told .given .1) at (o .ensures .1), opening-is (c .before .before .before .before .before .before .args .s .now) (o .result) _ (o .ensures .0) (c .before .enum-told .given .1))
+read-open-requires : tie.Need-read-open-requires
+read-open-requires c κs = let o = c .before .before .before .opening-of in (rw (c .before .enum-told .given .1) at (o .ensures .1), opening-is (c .before .before .before .before .before .before .args .s .now) (c .before .before .before .opening-of .result) _ (c .before .before .before .opening-of .ensures .0) (c .before .enum-told .given .1))
+
+checked-of-requires : tie.Need-checked-of-requires
+checked-of-requires c κs = search needs
 
 enum-known-status : tie.Need-enum-known-status
 enum-known-status c = search needs
@@ -22,11 +25,11 @@ same-length : tie.Need-same-length
 same-length c = search needs
 
 returns : tie.Need-returns
-unfolding checkOf unpackOf plainList unpackOutput
-returns c = rw (opening-is (c .before .before .before .before .before .before .before .before .before .args .s .now) (c .before .before .before .before .before .before .opening-of .result) _ (c .before .before .before .before .before .before .opening-of .ensures .0) (c .before .before .before .before .enum-told .given .1)) (c .before .before .unpack-open .ensures)
+unfolding unpackOf unpackOutput checkOf plainList
+returns c = rw (opening-is (c .before .before .before .before .before .before .before .before .before .before .args .s .now) (c .before .before .before .before .before .before .before .opening-of .result) _ (c .before .before .before .before .before .before .before .opening-of .ensures .0) (c .before .before .before .before .before .enum-told .given .1)) (c .checked-of .ensures _ (c .before .before .before .read-open .ensures .0), c .before .before .before .read-open .ensures .1)
 
 returns-2 : tie.Need-returns-2
-unfolding checkOf unpackOf plainList unpackOutput
+unfolding unpackOf unpackOutput checkOf plainList
 returns-2 c = rw (opening-is (c .before .before .before .before .before .before .args .s .now) (c .before .before .before .opening-of .result) _ (c .before .before .before .opening-of .ensures .0) (c .before .status .given .1)) (refl, refl)
 
 pub unpack-spec : {M : Type 1} → statement M
@@ -35,7 +38,8 @@ unpack-spec =
     (tie.spec
     opening-of-requires
     enum-told
-    unpack-open-requires
+    read-open-requires
+    checked-of-requires
     enum-known-status
     same-length
     returns
