@@ -106,6 +106,13 @@ int main(void) {
     printf("  step: refused %zu, carrying %zu, next position %zu\n", answer.refusal, answer.value, next);
   }
 
+  /* 9 and 10 carry a node, whose position rank tells. With the root's time changed to 0, its left child has a time below 0. */
+  strip[7 + 5 * gemcotton_height(pins)] = 0;
+  answer = gemcotton_check(strip, length);
+  if (answer.refusal == GEMCOTTON_TIME) {
+    printf("changed: no time at node %zu, position %zu\n", answer.value, gemcotton_rank(pins, answer.value));
+  }
+
   /* A refusal is told by its number, and what is carried says where. */
   answer = gemcotton_pack(strip, sizeof strip, falling, 2);
   if (answer.refusal == GEMCOTTON_LIST_FALLS) {

@@ -106,5 +106,6 @@ int main(void) {
   faults += differs("no repeat", gemcotton_repeat(out, sizeof STRIP, 0), 0, 0, 0);
   faults += walk_differs();
   faults += gemcotton_height(GEMCOTTON_MAX_PINS) != GEMCOTTON_MAX_HEIGHT || gemcotton_root_place(4) != 3;
+  faults += gemcotton_rank(5, 4) != 0 || gemcotton_rank(5, 1) != 3 || gemcotton_rank(5, 0) != 5 || gemcotton_rank(5, 6) != 5;
   return faults != 0;
 }

@@ -8,6 +8,9 @@
  * not null, even where its length is 0, and what is written overlaps nothing else that is lent. A call changes only what its
  * comment says, and nothing at a refusal, but for a sweep that has written the answers of earlier targets. No call keeps a
  * pointer, uses a heap or has a state of its own, so calls may run at the same time where none writes what another is lent.
+ *
+ * Stack, measured on x86-64 and not proved: pack, check, unpack and repeat take at most 24 KiB for up to 1,023 pins, and at
+ * most 540 KiB for more; every other call takes at most 4 KiB.
  */
 #ifndef GEMCOTTON_H
 #define GEMCOTTON_H
@@ -58,9 +61,13 @@ struct gemcotton_answer {
 size_t gemcotton_height(size_t n);
 size_t gemcotton_root_place(size_t n);
 
+/* The position of a node, such as one that 9 or 10 carries, in a list of n; or n where the number is no node's, so 0 or above n.
+ * Nodes are numbered from 1, the root. It answers for any n. */
+size_t gemcotton_rank(size_t n, size_t node);
+
 /* Packs the list into the front of `out`, whose later bytes keep their content. Gives the strip's length in bytes; counts no
  * nodes. Refused, in this order: 1, 2, 3, 4. 7 + 5h + 4n bytes are enough for n times, h their height; 4 carries the bytes that
- * this list needs, also for an output of length 0. A call takes under 400 KiB of the stack, however short the list. */
+ * this list needs, also for an output of length 0. */
 struct gemcotton_answer gemcotton_pack(uint8_t *out, size_t out_length, const uint32_t *times, size_t times_length);
 
 /* All calls below are reading calls. They open the strip first, refused in this order: 5 (under 7 bytes), 6, 7, 1, 5 (under
@@ -87,14 +94,12 @@ struct gemcotton_answer gemcotton_up_to(const uint8_t *strip, size_t strip_lengt
  * by their left side are remembered. Each later one drops remembered nodes from the deepest up while their time is below it,
  * and goes on from the right child of the last dropped, if any. A target's position is that of the deepest node then
  * remembered, or the pin count. Refused after opening with 15, then 16, with nothing written. A node with 9 or 10 ends the
- * sweep: the answers of the targets before the one that comes to it have been written, and no others. A call takes under
- * 300 KiB of the stack. */
+ * sweep: the answers of the targets before the one that comes to it have been written, and no others. */
 struct gemcotton_answer gemcotton_sweep(uint32_t *answers, size_t answers_length, const uint8_t *strip, size_t strip_length,
                                         const uint32_t *targets, size_t targets_length);
 
 /* Check, unpack and repeat read all positions and count no nodes. For each position from 0 on they give access's refusal, then
- * 11 where its time is lower than the one before. A call takes under 1 MiB of the stack, however short the
- * strip. */
+ * 11 where its time is lower than the one before. */
 
 /* Gives the pin count of an accepted strip. Refused for any other: in opening, at the first position with access's refusal or
  * with 11, or after the last position with 12, where the times so read pack to other bytes. */

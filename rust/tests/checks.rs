@@ -2,7 +2,6 @@
 //! entry. The baseline of the speed comparison goes through the same tests.
 
 use std::fmt::Debug;
-use std::thread;
 
 use gemcotton_tests::lend::{lend, words};
 use gemcotton_tests::lists::{around_powers, few_lists, few_pins, lists, rising};
@@ -17,8 +16,8 @@ use gemcotton_tests::reference::{choose, encode, size};
 use gemcotton_tests::strips::{
     change_bytes, changes_of_bytes, changes_of_one_byte, damaged_levels, example, front, is_fixed,
     meet, most_stored, packed, parts_cut_short, past_the_greatest_time, pins, random_parts,
-    random_strips, refused_at_opening, strip_of_values, strips_of_no_list, surrounded, wasteful,
-    with_number, with_value, zeros, A, B, TIMES_A,
+    random_strips, refused_at_opening, strip_of_values, strips_of_no_list, surrounded, with_number,
+    with_value, zeros, A, B, TIMES_A,
 };
 use gemcotton_tests::tally::Tally;
 use gemcotton_tests::{proved, straightforward};
@@ -297,30 +296,6 @@ fn nothing_lent() {
         assert_eq!((calls.unpack)(&empty, &mut out), refused(5, 0));
     }
     Strip(&empty).check_refused(5, 0);
-}
-
-#[test]
-fn stack_of_one_mebibyte() {
-    let mut random = Random(3);
-    let times = rising(PINS, || random.of_width(4));
-    let strip = packed(&times);
-    // Its list is packed, too, before it is refused.
-    let other = wasteful(&times, 1, &mut random);
-    let calls = move || {
-        let mut list = vec![0; PINS];
-        assert_eq!(proved::strip::check(&other), refused(12, 0));
-        assert_eq!(proved::strip::unpack(&other, &mut list), refused(12, 0));
-        for strip in [&strip[..], &B] {
-            let n = pins(strip);
-            assert_eq!(proved::strip::check(strip), Ok(n));
-            assert_eq!(proved::strip::unpack(strip, &mut list), Ok(n));
-            assert_eq!(proved::strip::repeat(strip, 0), Ok(None));
-        }
-    };
-    // The thread itself takes some, too.
-    let thread = thread::Builder::new().stack_size((1 << 20) + (1 << 16));
-    let done = thread.spawn(calls).expect("a thread").join();
-    assert!(done.is_ok());
 }
 
 // ---- 9 and 10: positions that access refuses ----

@@ -198,6 +198,20 @@ fn height_and_root_place() {
     }
 }
 
+#[test]
+fn ranks_of_nodes() {
+    for n in 0..=300 {
+        for v in 0..=n + 2 {
+            assert_eq!(gemcotton::rank(n, v), rank(n, v), "node {v} of {n}");
+        }
+    }
+    for n in around_powers(usize::MAX).into_iter().filter(|&n| n > 300) {
+        for v in [0, 1, 2, 3, n / 2, n - 1, n, n.saturating_add(1), usize::MAX] {
+            assert_eq!(gemcotton::rank(n, v), rank(n, v), "node {v} of {n}");
+        }
+    }
+}
+
 // ---- Pack, and reading whole strips ----
 
 #[test]

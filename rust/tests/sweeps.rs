@@ -1,8 +1,6 @@
 //! The proved sweep against the slow reference, answer by answer and entry by entry. The baseline
 //! of the speed comparison goes through the same tests.
 
-use std::thread;
-
 use gemcotton_tests::lend::{lend, words};
 use gemcotton_tests::lists::{
     around_powers, falling_lists, few_lists, few_pins, lists, rising, some_positions, sorted,
@@ -22,23 +20,6 @@ use gemcotton_tests::strips::{
 };
 use gemcotton_tests::tally::Tally;
 use gemcotton_tests::{proved, straightforward};
-
-#[test]
-fn stack_of_300_kibibytes() {
-    let mut random = Random(2);
-    let times = rising(PINS, || 1 + random.of_width(4));
-    let strip = packed(&times);
-    let calls = move || {
-        let mut answers = vec![0; PINS];
-        let nodes = proved::strip::sweep(&strip, &times, &mut answers);
-        // No times are equal, so every node is on the path to its own.
-        assert_eq!(nodes, Ok(PINS));
-    };
-    // The thread itself takes some, too.
-    let thread = thread::Builder::new().stack_size((300 << 10) + (1 << 16));
-    let done = thread.spawn(calls).expect("a thread").join();
-    assert!(done.is_ok());
-}
 
 // ---- Comparisons ----
 

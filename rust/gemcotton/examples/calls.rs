@@ -6,7 +6,7 @@
 //! cargo run --manifest-path rust/Cargo.toml -p gemcotton --example calls
 //! ```
 
-use gemcotton::{access, check, pack, repeat, search, sweep, unpack, up_to};
+use gemcotton::{access, check, height, pack, rank, repeat, search, sweep, unpack, up_to};
 use gemcotton::{Refusal, Walker, MAX_BYTES};
 
 /// The strike times, in milliseconds. Two strikes at 250 are a chord.
@@ -87,6 +87,15 @@ fn main() -> Result<(), Refusal> {
     if let Err(refusal) = walker.step() {
         let (number, carried, next) = (refusal.number(), refusal.carried(), walker.next);
         println!("  step: refused {number}, carrying {carried}, next position {next}");
+    }
+
+    // `Fetch` and `Time` carry a node, whose position `rank` tells. With the root's time changed to
+    // 0, its left child has a time below 0.
+    out[7 + 5 * height(pins)] = 0;
+    if let Err(Refusal::Time { node }) = check(&out[..length]) {
+        if let Some(position) = rank(pins, node) {
+            println!("changed: no time at node {node}, position {position}");
+        }
     }
 
     // A refusal is told by its case, and what it carries says where.

@@ -73,6 +73,7 @@ impl Answer {
 extern "C" {
     pub(crate) fn gemcotton_height(n: usize) -> usize;
     pub(crate) fn gemcotton_root_place(n: usize) -> usize;
+    pub(crate) fn gemcotton_rank(n: usize, node: usize) -> usize;
     pub(crate) fn gemcotton_pack(
         out: *mut u8,
         out_length: usize,
