@@ -7,6 +7,7 @@ use Prim.Native.Nat.{ℕ, _+_, _-_, _*_, _^_, _≤_, _<_}
 use lib.ListN.{length, take, drop, getD}
 use Rattle.codes.specs.Bits.{number, sum, bitsOf}
 use Rattle.codes.specs.Decode.{Decoded, all, undecoded, merged}
+use Rattle.codes.specs.declared.decoding.Span.{Span}
 
 -- n values of width w lie in the part
 abbrev pub InPart : ℕ → ℕ → List ℕ → Type 0
@@ -59,6 +60,19 @@ continuationWord bytes at from k = number (take (k * 1) (drop (at + from) (bitsO
 
 abbrev pub chunkWord : ℕ → List ℕ → ℕ → ℕ → ℕ → ℕ → ℕ
 chunkWord b bytes at n from k = number (take (k * b) (drop (at + n + from * b) (bitsOf bytes)))
+
+-- the same of a group by its span: it is merged next
+abbrev pub GroupNext : ℕ → List ℕ → List ℕ → Span → ℕ → Type 0
+GroupNext b bytes vs g kept = LayerGroup b bytes vs (g .at) (g .n) (g .from) (g .k) kept
+
+-- and its bits are read
+abbrev pub GroupRead : ℕ → List ℕ → List ℕ → Span → ℕ → ℕ → ℕ → Type 0
+GroupRead b bytes vs g kept mores chunks =
+    GroupNext b bytes vs g kept × (mores ≡ continuationWord bytes (g .at) (g .from) (g .k)) × (chunks ≡ chunkWord b bytes (g .at) (g .n) (g .from) (g .k))
+
+-- it is merged
+abbrev pub GroupMerged : ℕ → List ℕ → Span → List ℕ → ℕ → List ℕ → ℕ → Type 0
+GroupMerged b bytes g vs kept vs' kept' = Merges b bytes (g .at) (g .n) vs (g .from + g .k) kept vs' (g .from) kept'
 
 -- the values from i up to j are their chunks alone
 abbrev pub Alone : ℕ → List ℕ → List ℕ → ℕ → ℕ → Type 0

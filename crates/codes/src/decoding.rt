@@ -17,7 +17,7 @@ ghost use lib.ListN.{length, take, drop};
 ghost use Rattle.codes.specs.Bits.{number, sum, bitsOf};
 ghost use Rattle.codes.specs.Radix.{IsRadix};
 ghost use Rattle.codes.specs.Decode.{merged, fromOne, decodedLayers, kindDecoded, decoded, isDecoded, decodedOr0};
-ghost use Rattle.codes.specs.Merging.{InPart, FixedTo, continuationsAt, chunksAt, continuationWord, chunkWord, Small, LayerGroup, Alone, Put, Merges, Says};
+ghost use Rattle.codes.specs.Merging.{InPart, FixedTo, continuationsAt, chunksAt, continuationWord, chunkWord, Small, Alone, Put, GroupNext, GroupRead, GroupMerged, Says};
 ghost use Rattle.codes.specs.declared.kinds.Kind.the-variants.{Fixed};
 
 // A value of 32 bits has at most 32 chunks.
@@ -119,36 +119,40 @@ fn all_small(values: &[u32], n: usize, b: usize) -> bool
     joined >> (32 - b) == 0
 }
 
-// Merges a group of `k` values from value `from` on one by one, the last first: a value is its chunk and, where its continuation bit is
-// 1, the last rest that is not used yet above that. Gives how many rests are left. The part, of which `mores` and `chunks` have the
-// group's bits, is there for the contract.
-fn merge_each(
-    values: &mut [u32],
-    part: &[u8],
-    radix: Radix,
+// A group of a layer: the layer begins at bit `at` and has `n` values, of which these are the `k` from value `from` on.
+struct Span {
     at: usize,
     n: usize,
     from: usize,
     k: usize,
+}
+
+// Merges a group one by one, the last first: a value is its chunk and, where its continuation bit is 1, the last rest that is not used yet
+// above that. Gives how many rests are left. The part, of which `mores` and `chunks` have the group's bits, is there for the contract.
+fn merge_each(
+    values: &mut [u32],
+    part: &[u8],
+    radix: Radix,
+    span: Span,
     kept: usize,
     mores: u64,
     chunks: u64,
 ) -> usize
-    requires { ⌜ IsRadix radix × LayerGroup (radix .bits) (now part) (now values) at n from k kept × (mores ≡ continuationWord (now part) at from k) × (chunks ≡ chunkWord (radix .bits) (now part) at n from k) ⌝ }
-    ensures { λ r. ⌜ Merges (radix .bits) (now (part .entry)) at n (now (values .entry)) (from + k) kept (now (values .exit)) from r ⌝ }
+    requires { ⌜ IsRadix radix × GroupRead (radix .bits) (now part) (now values) span kept mores chunks ⌝ }
+    ensures { λ r. ⌜ GroupMerged (radix .bits) (now (part .entry)) span (now (values .entry)) kept (now (values .exit)) r ⌝ }
 {
     let b = radix.bits;
     let power = radix.power;
     let mut mores = mores;
     let mut chunks = chunks;
     let mut kept = kept;
-    let mut j = k;
+    let mut j = span.k;
     while j > 0 {
         j -= 1;
         let more = mores % 2;
         kept -= more as usize;
         let above = wide_value(values[kept]) * more;
-        values[from + j] = (above * power + low_bits(chunks, b)) as u32;
+        values[span.from + j] = (above * power + low_bits(chunks, b)) as u32;
         mores = mores / 2;
         chunks = chunks >> b;
     }
@@ -161,58 +165,47 @@ fn merge_many(
     values: &mut [u32],
     part: &[u8],
     radix: Radix,
-    at: usize,
-    n: usize,
-    from: usize,
-    k: usize,
+    span: Span,
     kept: usize,
     mores: u64,
     chunks: u64,
 ) -> usize
-    requires { ⌜ IsRadix radix × LayerGroup (radix .bits) (now part) (now values) at n from k kept × (mores ≡ continuationWord (now part) at from k) × (chunks ≡ chunkWord (radix .bits) (now part) at n from k) ⌝ }
-    ensures { λ r. ⌜ Merges (radix .bits) (now (part .entry)) at n (now (values .entry)) (from + k) kept (now (values .exit)) from r ⌝ }
+    requires { ⌜ IsRadix radix × GroupRead (radix .bits) (now part) (now values) span kept mores chunks ⌝ }
+    ensures { λ r. ⌜ GroupMerged (radix .bits) (now (part .entry)) span (now (values .entry)) kept (now (values .exit)) r ⌝ }
 {
     let b = radix.bits;
     match b {
         1 => {
             let one = radix_of(1);
-            merge_each(values, part, one, at, n, from, k, kept, mores, chunks)
+            merge_each(values, part, one, span, kept, mores, chunks)
         }
         2 => {
             let two = radix_of(2);
-            merge_each(values, part, two, at, n, from, k, kept, mores, chunks)
+            merge_each(values, part, two, span, kept, mores, chunks)
         }
         3 => {
             let three = radix_of(3);
-            merge_each(values, part, three, at, n, from, k, kept, mores, chunks)
+            merge_each(values, part, three, span, kept, mores, chunks)
         }
         4 => {
             let four = radix_of(4);
-            merge_each(values, part, four, at, n, from, k, kept, mores, chunks)
+            merge_each(values, part, four, span, kept, mores, chunks)
         }
-        _ => merge_each(values, part, radix, at, n, from, k, kept, mores, chunks),
+        _ => merge_each(values, part, radix, span, kept, mores, chunks),
     }
 }
 
 // Writes the chunks of a group, the last first.
-fn put_each(
-    values: &mut [u32],
-    part: &[u8],
-    b: usize,
-    at: usize,
-    n: usize,
-    from: usize,
-    k: usize,
-    chunks: u64,
-)
-    requires { ⌜ (b ≤ 8) × (from + k ≤ length (now values)) × (at + n + (from + k) * b ≤ length (now part) * 8) × (chunks ≡ chunkWord b (now part) at n from k) ⌝ }
-    ensures { λ r. ⌜ Put b (chunksAt (now (part .entry)) at n) (now (values .entry)) from (from + k) (now (values .exit)) ⌝ }
+fn put_each(values: &mut [u32], part: &[u8], b: usize, span: Span, chunks: u64)
+    requires { ⌜ (b ≤ 8) × (span .from + span .k ≤ length (now values)) × (span .at + span .n + (span .from + span .k) * b ≤ length (now part) * 8) ⌝ }
+    requires { ⌜ chunks ≡ chunkWord b (now part) (span .at) (span .n) (span .from) (span .k) ⌝ }
+    ensures { λ r. ⌜ Put b (chunksAt (now (part .entry)) (span .at) (span .n)) (now (values .entry)) (span .from) (span .from + span .k) (now (values .exit)) ⌝ }
 {
     let mut chunks = chunks;
-    let mut j = k;
+    let mut j = span.k;
     while j > 0 {
         j -= 1;
-        values[from + j] = low_bits(chunks, b) as u32;
+        values[span.from + j] = low_bits(chunks, b) as u32;
         chunks = chunks >> b;
     }
 }
@@ -222,23 +215,19 @@ fn add_rests(
     values: &mut [u32],
     part: &[u8],
     b: usize,
-    at: usize,
-    n: usize,
-    from: usize,
-    k: usize,
+    span: Span,
     kept: usize,
     mores: u64,
 ) -> usize
-    requires { ⌜ LayerGroup b (now part) (now values) at n from k kept × (mores ≡ continuationWord (now part) at from k) ⌝ }
-    requires { ⌜ (k < 64) × Alone b (chunksAt (now part) at n) (now values) from (from + k) ⌝ }
-    ensures { λ r. ⌜ Merges b (now (part .entry)) at n (now (values .entry)) (from + k) kept (now (values .exit)) from r ⌝ }
+    requires { ⌜ GroupNext b (now part) (now values) span kept × (mores ≡ continuationWord (now part) (span .at) (span .from) (span .k)) ⌝ }
+    requires { ⌜ (span .k < 64) × Alone b (chunksAt (now part) (span .at) (span .n)) (now values) (span .from) (span .from + span .k) ⌝ }
+    ensures { λ r. ⌜ GroupMerged b (now (part .entry)) span (now (values .entry)) kept (now (values .exit)) r ⌝ }
 {
-    let end = from + k;
     let mut mores = mores;
     let mut kept = kept;
     while mores > 0 {
         kept -= 1;
-        let i = end - 1 - u64::trailing_zeros(mores) as usize;
+        let i = span.from + span.k - 1 - u64::trailing_zeros(mores) as usize;
         values[i] = ((wide_value(values[kept]) << b) + wide_value(values[i])) as u32;
         mores = mores & (mores - 1);
     }
@@ -250,46 +239,35 @@ fn merge_few(
     values: &mut [u32],
     part: &[u8],
     b: usize,
-    at: usize,
-    n: usize,
-    from: usize,
-    k: usize,
+    span: Span,
     kept: usize,
     mores: u64,
     chunks: u64,
 ) -> usize
-    requires { ⌜ LayerGroup b (now part) (now values) at n from k kept × (mores ≡ continuationWord (now part) at from k) × (chunks ≡ chunkWord b (now part) at n from k) ⌝ }
-    requires { ⌜ (k < 64) × (kept ≤ from) ⌝ }
-    ensures { λ r. ⌜ Merges b (now (part .entry)) at n (now (values .entry)) (from + k) kept (now (values .exit)) from r ⌝ }
+    requires { ⌜ GroupRead b (now part) (now values) span kept mores chunks ⌝ }
+    requires { ⌜ (span .k < 64) × (kept ≤ span .from) ⌝ }
+    ensures { λ r. ⌜ GroupMerged b (now (part .entry)) span (now (values .entry)) kept (now (values .exit)) r ⌝ }
 {
-    put_each(values, part, b, at, n, from, k, chunks);
-    add_rests(values, part, b, at, n, from, k, kept, mores)
+    put_each(values, part, b, span, chunks);
+    add_rests(values, part, b, span, kept, mores)
 }
 
-// Merges `k` values of the layer from value `from` on, whose bits are read at once. Where many have a rest, it is faster to merge each as
-// if it had one. Gives how many rests are left.
-fn merge_group(
-    values: &mut [u32],
-    part: &[u8],
-    radix: Radix,
-    at: usize,
-    n: usize,
-    from: usize,
-    k: usize,
-    kept: usize,
-) -> usize
-    requires { ⌜ (1 ≤ radix .bits) × (radix .bits ≤ 8) × IsRadix radix × (1 ≤ k) × (k * radix .bits ≤ 56) × (from + k ≤ n) ⌝ }
-    requires { ⌜ (n ≤ length (now values)) × (at + n + n * radix .bits ≤ length (now part) * 8) × (length (now part) < 2 ^ 32) ⌝ }
-    requires { ⌜ (kept ≡ sum (take (from + k) (continuationsAt (now part) at n))) × Small (radix .bits) (now values) kept ⌝ }
-    ensures { λ r. ⌜ Merges (radix .bits) (now (part .entry)) at n (now (values .entry)) (from + k) kept (now (values .exit)) from r ⌝ }
+// Merges a group, whose bits are read at once. Where many of its values have a rest, it is faster to merge each as if it had one. Gives
+// how many rests are left.
+fn merge_group(values: &mut [u32], part: &[u8], radix: Radix, span: Span, kept: usize) -> usize
+    requires { ⌜ IsRadix radix × GroupNext (radix .bits) (now part) (now values) span kept ⌝ }
+    requires { ⌜ (1 ≤ span .k) × (span .k * radix .bits ≤ 56) × (length (now part) < 2 ^ 32) ⌝ }
+    ensures { λ r. ⌜ GroupMerged (radix .bits) (now (part .entry)) span (now (values .entry)) kept (now (values .exit)) r ⌝ }
 {
     let b = radix.bits;
-    let mores = read(part, at + from, k);
-    let chunks = read(part, at + n + from * b, k * b);
+    let k = span.k;
+    let from = span.from;
+    let mores = read(part, span.at + from, k);
+    let chunks = read(part, span.at + span.n + from * b, k * b);
     if kept > from || u64::count_ones(mores) as usize * 3 > k {
-        return merge_many(values, part, radix, at, n, from, k, kept, mores, chunks);
+        return merge_many(values, part, radix, span, kept, mores, chunks);
     }
-    merge_few(values, part, b, at, n, from, k, kept, mores, chunks)
+    merge_few(values, part, b, span, kept, mores, chunks)
 }
 
 // Merges the layer of `n` values that begins at bit `at` with the `rests`, the values of the layers after it, which stand at the front.
@@ -307,7 +285,13 @@ fn merge(values: &mut [u32], part: &[u8], b: usize, at: usize, n: usize, rests: 
     while i > 0 {
         let k = least(i, room);
         i -= k;
-        kept = merge_group(values, part, radix, at, n, i, k, kept);
+        let span = Span {
+            at: at,
+            n: n,
+            from: i,
+            k: k,
+        };
+        kept = merge_group(values, part, radix, span, kept);
     }
 }
 

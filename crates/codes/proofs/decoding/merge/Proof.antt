@@ -1,4 +1,4 @@
--- `merge` meets its contract.
+-- Each turn merges the last group that is left; where none is left, the layer is merged.
 use native.Mathlib.Omega.{arith}
 use mathlib.Core.Path.{_≡_, refl}
 use mathlib.Core.List.{List}
@@ -54,9 +54,20 @@ merge-group-requires c κs =
     let k = c .before .least .ensures in
     let h : c .before .least .result ≤ 56 / a .b = omega arith in
     let e : l .i - c .before .least .result + c .before .least .result ≡ l .i = omega arith in
-    rw (r .0, e) (
-      (p .0 .0, p .0 .1, rw (r .0) at (r .1), omega arith, le-trans (mul-le-mul-right (a .b) h) (l .inv .4), l .inv .0),
-      ((omega arith, p .0 .4, p .0 .3), (m .ones, λ q h. rw (m .unused q h, getD-take (a .rests) (a .values .now) q 0 (omega arith)) (p .1 .1 q (omega arith)))),
+    rw (r .0) (
+      (
+        rw (r .0) at (r .1),
+        record {
+          some = p .0 .0;
+          few = p .0 .1;
+          inside = rw e (l .inv .0);
+          room = omega arith;
+          whole = p .0 .4;
+          ones = rw e (m .ones);
+          small = λ q h. rw (m .unused q h, getD-take (a .rests) (a .values .now) q 0 (omega arith)) (p .1 .1 q (omega arith));
+        },
+      ),
+      (omega arith, le-trans (mul-le-mul-right (a .b) h) (l .inv .4), p .0 .3),
     )
 
 loop-less : tie.Need-loop-less Inv-loop μ-loop

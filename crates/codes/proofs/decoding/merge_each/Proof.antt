@@ -1,4 +1,4 @@
--- `merge_each` meets its contract.
+-- Each turn merges the last value that is left, so the group before it is still to be merged, with the words shifted past it.
 use native.Mathlib.Omega.{arith}
 use mathlib.Core.Path.{_≡_, refl, _∙_}
 use Prim.Native.Nat.{ℕ, suc, _+_, _-_, _*_, _%_, _^_, _≤_, _<_}
@@ -14,23 +14,26 @@ use Rattle.codes.proofs.decoding.merge_each.Statement.{statement}
 use Rattle.codes.proofs.decoding.merge_each.Tie as tie
 
 abbrev Inv-loop : tie.InvT-loop
-Inv-loop values₀ part at n from k kept mores chunks b power mores₀ chunks₀ kept₀ j₀ values mores' chunks' kept' j =
-    (j ≤ k) × (length values ≡ length values₀) × LayerGroup b part values at n from j kept' × (mores' ≡ continuationWord part at from j) × (chunks' ≡ chunkWord b part at n from j)
-    × Merges b part at n values₀ (from + k) kept values (from + j) kept'
+Inv-loop values₀ part span kept mores chunks b power mores₀ chunks₀ kept₀ j₀ values mores' chunks' kept' j =
+    let at = span .at in
+    let n = span .n in
+    let from = span .from in
+    (j ≤ span .k) × (length values ≡ length values₀) × LayerGroup b part values at n from j kept' × (mores' ≡ continuationWord part at from j) × (chunks' ≡ chunkWord b part at n from j)
+    × Merges b part at n values₀ (from + span .k) kept values (from + j) kept'
 
 abbrev μ-loop : tie.MeasureT-loop
-μ-loop values₀ part at n from k kept mores chunks b power mores₀ chunks₀ kept₀ j₀ values mores' chunks' kept' j = j
+μ-loop values₀ part span kept mores chunks b power mores₀ chunks₀ kept₀ j₀ values mores' chunks' kept' j = j
 
 -- the value that is merged next
 last : (c : tie.In-loop Inv-loop μ-loop)
     → let a = c .before .before .before .before .args in
     let l = c .before .loop in
-    Last (a .radix .bits) (a .part .now) (l .values) (a .at) (a .n) (a .from) (l .j - 1) (l .kept) (l .mores % 2)
+    Last (a .radix .bits) (a .part .now) (l .values) (a .span .at) (a .span .n) (a .span .from) (l .j - 1) (l .kept) (l .mores % 2)
 last c =
     let a = c .before .before .before .before .args in
     let l = c .before .loop in
     let e : l .j ≡ suc (l .j - 1) = omega arith in
-    rw (← e, ← (l .inv .3)) at (last-of (a .radix .bits) (a .part .now) (l .values) (a .at) (a .n) (a .from) (l .j - 1) (l .kept) (rw e at (l .inv .2)))
+    rw (← e, ← (l .inv .3)) at (last-of (a .radix .bits) (a .part .now) (l .values) (a .span .at) (a .span .n) (a .span .from) (l .j - 1) (l .kept) (rw e at (l .inv .2)))
 
 -- its value has 32 bits at most
 fits : (c : tie.In-loop Inv-loop μ-loop)
@@ -52,7 +55,7 @@ low-64 : (x y : ℕ) → x + y < 2 ^ 32 → Fits w64 x
 low-64 x y h = omega arith
 
 loop-holds : tie.Need-loop-holds Inv-loop μ-loop
-loop-holds c = let p = c .before .before .pre in (omega arith, refl, p .1, p .2, p .3, λ rests m. m)
+loop-holds c = let p = c .before .before .pre in (omega arith, refl, p .1 .0, p .1 .1, p .1 .2, λ rests m. m)
 
 sub-j : tie.Need-sub-j Inv-loop μ-loop
 sub-j c = omega arith
@@ -106,18 +109,18 @@ loop-less c = omega arith
 
 loop-again : tie.Need-loop-again Inv-loop μ-loop
 loop-again c =
-    let a = c .before .before .before .before .before .before .before .args in
-    let p = c .before .before .before .before .before .before .before .pre in
-    let l = c .before .before .before .before .loop in
-    let z = last (c .before .before .before) in
+    let a = c .before .before .before .before .before .before .before .before .args in
+    let p = c .before .before .before .before .before .before .before .before .pre in
+    let l = c .before .before .before .before .before .loop in
+    let z = last (c .before .before .before .before) in
     let b = a .radix .bits in
-    let x = c .before .wide-value .result * (l .mores % 2) * a .radix .power + c .low-bits .result in
+    let x = c .before .before .wide-value .result * (l .mores % 2) * a .radix .power + c .before .low-bits .result in
     let s : l .j ≡ suc (l .j - 1) = omega arith in
-    let y = rw (← s) at (last-chunk b (a .part .now) (a .at) (a .n) (a .from) (l .j - 1) (rw s at (group-whole (l .inv .2)))) in
-    let e : x ≡ getD (l .values) (l .kept - l .mores % 2) 0 * (l .mores % 2) * 2 ^ b + number (take b (drop ((a .from + (l .j - 1)) * b) (chunksAt (a .part .now) (a .at) (a .n)))) =
-    rw (c .before .wide-value .ensures, p .0, c .low-bits .ensures .1, l .inv .4, y .0) in (
+    let y = rw (← s) at (last-chunk b (a .part .now) (a .span .at) (a .span .n) (a .span .from) (l .j - 1) (rw s at (group-whole (l .inv .2)))) in
+    let e : x ≡ getD (l .values) (l .kept - l .mores % 2) 0 * (l .mores % 2) * 2 ^ b + number (take b (drop ((a .span .from + (l .j - 1)) * b) (chunksAt (a .part .now) (a .span .at) (a .span .n)))) =
+    rw (c .before .before .wide-value .ensures, p .0, c .before .low-bits .ensures .1, l .inv .4, y .0) in (
       omega arith,
-      length-set (l .values) (a .from + (l .j - 1)) x ∙ l .inv .1,
+      length-set (l .values) (a .span .from + (l .j - 1)) x ∙ l .inv .1,
       z .others x,
       rw (l .inv .3) (rw (← s) at (z .before)),
       rw (l .inv .4) (y .1),
@@ -131,7 +134,7 @@ returns : tie.Need-returns Inv-loop μ-loop
 returns c =
     let a = c .before .before .before .before .args in
     let l = c .before .loop in
-    let e : a .from + l .j ≡ a .from = omega arith in
+    let e : a .span .from + l .j ≡ a .span .from = omega arith in
     λ rests m. rw e at (l .inv .5 rests m)
 
 pub merge-each-spec : {M : Type 1} → statement M

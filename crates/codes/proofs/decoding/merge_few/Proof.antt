@@ -1,4 +1,4 @@
--- `merge_few` meets its contract.
+-- The chunks stand where no rest does, so writing them leaves the group to be merged as it was.
 use native.Mathlib.Omega.{arith}
 use borrow.Author.Needs.{needs}
 use Rattle.codes.proofs.Groups.{group-whole, put-group, put-merging}
@@ -8,7 +8,7 @@ use Rattle.codes.proofs.decoding.merge_few.Tie as tie
 put-each-requires : tie.Need-put-each-requires
 put-each-requires c κs =
     let p = c .before .before .before .pre .0 in
-    (p .0 .few, omega arith, group-whole (p .0), p .2)
+    ((p .0 .few, omega arith, group-whole (p .0)), p .2)
 
 add-rests-requires : tie.Need-add-rests-requires
 add-rests-requires c κs =

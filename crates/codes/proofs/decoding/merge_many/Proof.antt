@@ -1,4 +1,4 @@
--- `merge_many` meets its contract.
+-- A constant width is the width: what is asked and what is promised are those of `merge_each`.
 use mathlib.Core.Path.{sym, _∙_}
 use borrow.Author.Needs.{needs}
 use Rattle.codes.proofs.decoding.merge_many.Statement.{statement}
@@ -11,7 +11,7 @@ merge-each-requires : tie.Need-merge-each-requires
 merge-each-requires c κs =
     let p = c .before .before .before .before .before .pre in
     let e = c .before .radix-of .ensures .0 ∙ sym (c .before .before .match .keys1) in
-    (c .before .radix-of .ensures .1, rw e (p .1), p .2, rw e (p .3))
+    (c .before .radix-of .ensures .1, rw e (p .1))
 
 radix-of-requires-2 : tie.Need-radix-of-requires-2
 radix-of-requires-2 c κs = search needs
@@ -20,7 +20,7 @@ merge-each-requires-2 : tie.Need-merge-each-requires-2
 merge-each-requires-2 c κs =
     let p = c .before .before .before .before .before .pre in
     let e = c .before .radix-of2 .ensures .0 ∙ sym (c .before .before .match .keys2) in
-    (c .before .radix-of2 .ensures .1, rw e (p .1), p .2, rw e (p .3))
+    (c .before .radix-of2 .ensures .1, rw e (p .1))
 
 radix-of-requires-3 : tie.Need-radix-of-requires-3
 radix-of-requires-3 c κs = search needs
@@ -29,7 +29,7 @@ merge-each-requires-3 : tie.Need-merge-each-requires-3
 merge-each-requires-3 c κs =
     let p = c .before .before .before .before .before .pre in
     let e = c .before .radix-of3 .ensures .0 ∙ sym (c .before .before .match .keys3) in
-    (c .before .radix-of3 .ensures .1, rw e (p .1), p .2, rw e (p .3))
+    (c .before .radix-of3 .ensures .1, rw e (p .1))
 
 radix-of-requires-4 : tie.Need-radix-of-requires-4
 radix-of-requires-4 c κs = search needs
@@ -38,7 +38,7 @@ merge-each-requires-4 : tie.Need-merge-each-requires-4
 merge-each-requires-4 c κs =
     let p = c .before .before .before .before .before .pre in
     let e = c .before .radix-of4 .ensures .0 ∙ sym (c .before .before .match .keys4) in
-    (c .before .radix-of4 .ensures .1, rw e (p .1), p .2, rw e (p .3))
+    (c .before .radix-of4 .ensures .1, rw e (p .1))
 
 merge-each-requires-5 : tie.Need-merge-each-requires-5
 merge-each-requires-5 c κs = search needs

@@ -1,4 +1,4 @@
--- `put_each` meets its contract.
+-- Each turn writes the chunk of the last value that is left.
 use native.Mathlib.Omega.{arith}
 use mathlib.Core.Path.{_≡_, refl, _∙_}
 use Prim.Native.Nat.{suc, _+_, _-_, _≤_}
@@ -11,14 +11,17 @@ use Rattle.codes.proofs.decoding.put_each.Statement.{statement}
 use Rattle.codes.proofs.decoding.put_each.Tie as tie
 
 abbrev Inv-loop : tie.InvT-loop
-Inv-loop values₀ part b at n from k chunks chunks₀ j₀ values chunks' j =
-    (j ≤ k) × (length values ≡ length values₀) × (chunks' ≡ chunkWord b part at n from j) × Put b (chunksAt part at n) values₀ (from + j) (from + k) values
+Inv-loop values₀ part b span chunks chunks₀ j₀ values chunks' j =
+    let at = span .at in
+    let n = span .n in
+    let from = span .from in
+    (j ≤ span .k) × (length values ≡ length values₀) × (chunks' ≡ chunkWord b part at n from j) × Put b (chunksAt part at n) values₀ (from + j) (from + span .k) values
 
 abbrev μ-loop : tie.MeasureT-loop
-μ-loop values₀ part b at n from k chunks chunks₀ j₀ values chunks' j = j
+μ-loop values₀ part b span chunks chunks₀ j₀ values chunks' j = j
 
 loop-holds : tie.Need-loop-holds Inv-loop μ-loop
-loop-holds c = (omega arith, refl, c .before .before .pre .3, record { alone = λ q h k. absurd (omega arith); before = λ q h. refl; after = λ q h. refl })
+loop-holds c = (omega arith, refl, c .before .before .pre .1, record { alone = λ q h k. absurd (omega arith); before = λ q h. refl; after = λ q h. refl })
 
 sub-j : tie.Need-sub-j Inv-loop μ-loop
 sub-j c = omega arith
@@ -47,18 +50,18 @@ loop-less c = omega arith
 
 loop-again : tie.Need-loop-again Inv-loop μ-loop
 loop-again c =
-    let a = c .before .before .before .before .before .args in
-    let l = c .before .before .loop in
-    let i = a .from + (l .j - 1) in
+    let a = c .before .before .before .before .before .before .args in
+    let l = c .before .before .before .loop in
+    let i = a .span .from + (l .j - 1) in
     let s : l .j ≡ suc (l .j - 1) = omega arith in
-    let t : a .from + l .j ≡ suc i = omega arith in
-    let h : a .from + suc (l .j - 1) ≤ a .from + a .k = omega arith in
-    let y = rw (← s) at (last-chunk (a .b) (a .part .now) (a .at) (a .n) (a .from) (l .j - 1) (omega (arith, mul-le-mul-right (a .b) h))) in (
+    let t : a .span .from + l .j ≡ suc i = omega arith in
+    let h : a .span .from + suc (l .j - 1) ≤ a .span .from + a .span .k = omega arith in
+    let y = rw (← s) at (last-chunk (a .b) (a .part .now) (a .span .at) (a .span .n) (a .span .from) (l .j - 1) (omega (arith, mul-le-mul-right (a .b) h))) in (
       omega arith,
-      length-set (l .values) i (c .low-bits .result) ∙ l .inv .1,
+      length-set (l .values) i (c .before .low-bits .result) ∙ l .inv .1,
       rw (l .inv .2) (y .1),
-      put-next (a .b) (chunksAt (a .part .now) (a .at) (a .n)) (a .values .now) (l .values) i (a .from + a .k) (c .low-bits .result) (omega arith)
-          (rw (c .low-bits .ensures .1, l .inv .2) (y .0)) (omega arith) (rw t at (l .inv .3)),
+      put-next (a .b) (chunksAt (a .part .now) (a .span .at) (a .span .n)) (a .values .now) (l .values) i (a .span .from + a .span .k) (c .before .low-bits .result) (omega arith)
+          (rw (c .before .low-bits .ensures .1, l .inv .2) (y .0)) (omega arith) (rw t at (l .inv .3)),
     )
 
 same-length : tie.Need-same-length Inv-loop μ-loop
@@ -67,7 +70,7 @@ same-length c = c .before .loop .inv .1
 returns : tie.Need-returns Inv-loop μ-loop
 returns c =
     let a = c .before .before .before .before .args in
-    let e : a .from + c .before .loop .j ≡ a .from = omega arith in
+    let e : a .span .from + c .before .loop .j ≡ a .span .from = omega arith in
     rw e at (c .before .loop .inv .3)
 
 pub put-each-spec : {M : Type 1} → statement M
