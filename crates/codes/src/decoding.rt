@@ -252,8 +252,8 @@ fn merge_few(
     add_rests(values, part, b, span, kept, mores)
 }
 
-// Merges a group, whose bits are read at once. Where many of its values have a rest, it is faster to merge each as if it had one. Gives
-// how many rests are left.
+// Merges a group, whose bits are read at once. Only the first groups of a layer have rests standing in them, which are merged value by
+// value. Gives how many rests are left.
 fn merge_group(values: &mut [u32], part: &[u8], radix: Radix, span: Span, kept: usize) -> usize
     requires { ⌜ IsRadix radix × GroupNext (radix .bits) (now part) (now values) span kept ⌝ }
     requires { ⌜ (1 ≤ span .k) × (span .k * radix .bits ≤ 56) × (length (now part) < 2 ^ 32) ⌝ }
@@ -264,7 +264,7 @@ fn merge_group(values: &mut [u32], part: &[u8], radix: Radix, span: Span, kept: 
     let from = span.from;
     let mores = read(part, span.at + from, k);
     let chunks = read(part, span.at + span.n + from * b, k * b);
-    if kept > from || u64::count_ones(mores) as usize * 3 > k {
+    if kept > from {
         return merge_many(values, part, radix, span, kept, mores, chunks);
     }
     merge_few(values, part, b, span, kept, mores, chunks)

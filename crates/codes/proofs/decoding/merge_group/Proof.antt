@@ -4,7 +4,6 @@ use borrow.Author.Needs.{needs}
 use mathlib.Core.Path.{_≡_}
 use Prim.Native.Nat.{_+_, _*_, _≤_}
 use native.Mathlib.Nat.{mul-le-mul, mul-le-mul-left}
-use lib.Count.{ones-le}
 use lib.ListN.{length}
 use Rattle.codes.proofs.Groups.{group-whole}
 use Rattle.codes.proofs.decoding.merge_group.Statement.{statement}
@@ -45,16 +44,6 @@ read-requires-2 c κs =
     let g = c .before .before .before .before .before in
     omega (arith, chunks-in g, mul-le-mul (g .pre .1 .0) (g .pre .0 .1 .some))
 
-cast-if2 : tie.Need-cast-if2
-cast-if2 c =
-    let g = c .before .before .before .before .before .before .before in
-    omega (arith, ones-le (g .args .span .k) (c .before .before .before .read .result) (c .before .before .before .read .ensures .0), few g)
-
-mul-if2 : tie.Need-mul-if2
-mul-if2 c =
-    let g = c .before .before .before .before .before .before .before in
-    omega (arith, ones-le (g .args .span .k) (c .before .before .before .read .result) (c .before .before .before .read .ensures .0), few g)
-
 merge-many-requires : tie.Need-merge-many-requires
 merge-many-requires c κs =
     let g = c .before .before .before .before .before .before .before .before in
@@ -68,8 +57,8 @@ returns c = search needs
 
 merge-few-requires : tie.Need-merge-few-requires
 merge-few-requires c κs =
-    let g = c .before .before .before .before .before .before .before .before .before in
-    ((g .pre .0 .1, rw (one-each g) (c .before .before .before .before .before .read .ensures .1), c .before .before .before .read2 .ensures .1), (omega (arith, few g), omega arith))
+    let g = c .before .before .before .before .before .before .before .before in
+    ((g .pre .0 .1, rw (one-each g) (c .before .before .before .before .read .ensures .1), c .before .before .read2 .ensures .1), (omega (arith, few g), omega arith))
 
 same-length-2 : tie.Need-same-length-2
 same-length-2 c = search needs
@@ -88,8 +77,6 @@ merge-group-spec =
     add-read-3
     mul-read-2
     read-requires-2
-    cast-if2
-    mul-if2
     merge-many-requires
     same-length
     returns
