@@ -61,16 +61,16 @@ continuationWord bytes at from k = number (take (k * 1) (drop (at + from) (bitsO
 abbrev pub chunkWord : ℕ → List ℕ → ℕ → ℕ → ℕ → ℕ → ℕ
 chunkWord b bytes at n from k = number (take (k * b) (drop (at + n + from * b) (bitsOf bytes)))
 
--- the same of a group by its span: it is merged next
+-- a group by its span is the one that is merged next
 abbrev pub GroupNext : ℕ → List ℕ → List ℕ → Span → ℕ → Type 0
 GroupNext b bytes vs g kept = LayerGroup b bytes vs (g .at) (g .n) (g .from) (g .k) kept
 
--- and its bits are read
+-- its continuation bits and its chunks are read, too
 abbrev pub GroupRead : ℕ → List ℕ → List ℕ → Span → ℕ → ℕ → ℕ → Type 0
 GroupRead b bytes vs g kept mores chunks =
     GroupNext b bytes vs g kept × (mores ≡ continuationWord bytes (g .at) (g .from) (g .k)) × (chunks ≡ chunkWord b bytes (g .at) (g .n) (g .from) (g .k))
 
--- it is merged
+-- and it has been merged
 abbrev pub GroupMerged : ℕ → List ℕ → Span → List ℕ → ℕ → List ℕ → ℕ → Type 0
 GroupMerged b bytes g vs kept vs' kept' = Merges b bytes (g .at) (g .n) vs (g .from + g .k) kept vs' (g .from) kept'
 

@@ -159,9 +159,9 @@ fn merge_each(
     kept
 }
 
-// The same, with the small widths as constants, of which the compiler makes faster shifts. It would join calls that differ in one constant,
-// so the width comes with its power.
-fn merge_many(
+// As `merge_each`, with the small widths as constants, of which the compiler makes faster shifts. It would join calls that differ in one
+// constant, so the width comes with its power.
+fn merge_by_width(
     values: &mut [u32],
     part: &[u8],
     radix: Radix,
@@ -235,7 +235,7 @@ fn add_rests(
 }
 
 // Merges a group that no rest stands in, its chunks first. It takes no time for a continuation bit that is 0.
-fn merge_few(
+fn merge_chunks_first(
     values: &mut [u32],
     part: &[u8],
     b: usize,
@@ -252,8 +252,8 @@ fn merge_few(
     add_rests(values, part, b, span, kept, mores)
 }
 
-// Merges a group, whose bits are read at once. Only the first groups of a layer have rests standing in them, which are merged value by
-// value. Gives how many rests are left.
+// Merges a group, whose bits are read at once. A rest stands in the group's place where fewer than `k` values up to the group's end have
+// none; writing the chunks first would lose it, so such a group is merged value by value. Gives how many rests are left.
 fn merge_group(values: &mut [u32], part: &[u8], radix: Radix, span: Span, kept: usize) -> usize
     requires { ⌜ IsRadix radix × GroupNext (radix .bits) (now part) (now values) span kept ⌝ }
     requires { ⌜ (1 ≤ span .k) × (span .k * radix .bits ≤ 56) × (length (now part) < 2 ^ 32) ⌝ }
@@ -265,9 +265,9 @@ fn merge_group(values: &mut [u32], part: &[u8], radix: Radix, span: Span, kept: 
     let mores = read(part, span.at + from, k);
     let chunks = read(part, span.at + span.n + from * b, k * b);
     if kept > from {
-        return merge_many(values, part, radix, span, kept, mores, chunks);
+        return merge_by_width(values, part, radix, span, kept, mores, chunks);
     }
-    merge_few(values, part, b, span, kept, mores, chunks)
+    merge_chunks_first(values, part, b, span, kept, mores, chunks)
 }
 
 // Merges the layer of `n` values that begins at bit `at` with the `rests`, the values of the layers after it, which stand at the front.

@@ -1,9 +1,8 @@
 -- Both reads have the bits of the whole group, one and b for each value.
 use native.Mathlib.Omega.{arith}
 use borrow.Author.Needs.{needs}
-use mathlib.Core.Path.{_≡_}
 use Prim.Native.Nat.{_+_, _*_, _≤_}
-use native.Mathlib.Nat.{mul-le-mul, mul-le-mul-left}
+use native.Mathlib.Nat.{mul-one, mul-le-mul, mul-le-mul-left}
 use lib.ListN.{length}
 use Rattle.codes.proofs.Groups.{group-whole}
 use Rattle.codes.proofs.decoding.merge_group.Statement.{statement}
@@ -16,10 +15,6 @@ chunks-in c = group-whole (c .pre .0 .1)
 -- it has no more values than bits
 few : (c : tie.Start) → c .args .span .k * 1 ≤ c .args .span .k * c .args .radix .bits
 few c = mul-le-mul-left (c .args .span .k) (c .pre .0 .1 .some)
-
--- as many as its continuation bits
-one-each : (c : tie.Start) → c .args .span .k * 1 ≡ c .args .span .k
-one-each c = omega arith
 
 add-read : tie.Need-add-read
 add-read c = omega (arith, chunks-in (c .before .before .before))
@@ -44,10 +39,10 @@ read-requires-2 c κs =
     let g = c .before .before .before .before .before in
     omega (arith, chunks-in g, mul-le-mul (g .pre .1 .0) (g .pre .0 .1 .some))
 
-merge-many-requires : tie.Need-merge-many-requires
-merge-many-requires c κs =
+merge-by-width-requires : tie.Need-merge-by-width-requires
+merge-by-width-requires c κs =
     let g = c .before .before .before .before .before .before .before .before in
-    (g .pre .0 .0, (g .pre .0 .1, rw (one-each g) (c .before .before .before .before .read .ensures .1), c .before .before .read2 .ensures .1))
+    (g .pre .0 .0, (g .pre .0 .1, rw (mul-one (g .args .span .k)) (c .before .before .before .before .read .ensures .1), c .before .before .read2 .ensures .1))
 
 same-length : tie.Need-same-length
 same-length c = search needs
@@ -55,10 +50,10 @@ same-length c = search needs
 returns : tie.Need-returns
 returns c = search needs
 
-merge-few-requires : tie.Need-merge-few-requires
-merge-few-requires c κs =
+merge-chunks-first-requires : tie.Need-merge-chunks-first-requires
+merge-chunks-first-requires c κs =
     let g = c .before .before .before .before .before .before .before .before in
-    ((g .pre .0 .1, rw (one-each g) (c .before .before .before .before .read .ensures .1), c .before .before .read2 .ensures .1), (omega (arith, few g), omega arith))
+    ((g .pre .0 .1, rw (mul-one (g .args .span .k)) (c .before .before .before .before .read .ensures .1), c .before .before .read2 .ensures .1), (omega (arith, few g), omega arith))
 
 same-length-2 : tie.Need-same-length-2
 same-length-2 c = search needs
@@ -77,9 +72,9 @@ merge-group-spec =
     add-read-3
     mul-read-2
     read-requires-2
-    merge-many-requires
+    merge-by-width-requires
     same-length
     returns
-    merge-few-requires
+    merge-chunks-first-requires
     same-length-2
     returns-2)

@@ -1,8 +1,8 @@
 -- A constant width is the width: what is asked and what is promised are those of `merge_each`.
 use mathlib.Core.Path.{sym, _∙_}
 use borrow.Author.Needs.{needs}
-use Rattle.codes.proofs.decoding.merge_many.Statement.{statement}
-use Rattle.codes.proofs.decoding.merge_many.Tie as tie
+use Rattle.codes.proofs.decoding.merge_by_width.Statement.{statement}
+use Rattle.codes.proofs.decoding.merge_by_width.Tie as tie
 
 radix-of-requires : tie.Need-radix-of-requires
 radix-of-requires c κs = search needs
@@ -81,8 +81,8 @@ same-length-5 c = search needs
 returns-5 : tie.Need-returns-5
 returns-5 c = search needs
 
-pub merge-many-spec : {M : Type 1} → statement M
-merge-many-spec =
+pub merge-by-width-spec : {M : Type 1} → statement M
+merge-by-width-spec =
     tie.close
     (tie.spec
     radix-of-requires

@@ -2,8 +2,8 @@
 use native.Mathlib.Omega.{arith}
 use borrow.Author.Needs.{needs}
 use Rattle.codes.proofs.Groups.{group-whole, put-group, put-merging}
-use Rattle.codes.proofs.decoding.merge_few.Statement.{statement}
-use Rattle.codes.proofs.decoding.merge_few.Tie as tie
+use Rattle.codes.proofs.decoding.merge_chunks_first.Statement.{statement}
+use Rattle.codes.proofs.decoding.merge_chunks_first.Tie as tie
 
 put-each-requires : tie.Need-put-each-requires
 put-each-requires c κs =
@@ -24,5 +24,5 @@ returns c =
     let p = c .before .before .before .before .before .before .before .before .before .before .pre in
     λ rests m. c .before .before .add-rests .ensures rests (put-merging (p .1 .1) (c .before .before .before .before .before .before .put-each .ensures) m)
 
-pub merge-few-spec : {M : Type 1} → statement M
-merge-few-spec = tie.close (tie.spec put-each-requires add-rests-requires same-length returns)
+pub merge-chunks-first-spec : {M : Type 1} → statement M
+merge-chunks-first-spec = tie.close (tie.spec put-each-requires add-rests-requires same-length returns)
