@@ -13,6 +13,7 @@ pub mod Groups
 pub mod Layers
 pub mod LayersWritten
 pub mod Lists
+pub mod Marks
 pub mod Merges
 pub mod Parts
 pub mod Promises

@@ -108,16 +108,13 @@ module _ (bs : List ℕ) {end : ℕ} (len : length bs ≡ end) (b at n k s a : �
         go true = rw (mul-comm (2 ^ s) c) (over (a + c * 2 ^ s) h)
         go false = next s b a c (deeper bs b at n k) ∙ over-extended (min (s + b) 32) (a + c * 2 ^ s) (deeper bs b at n k) h
 
-    -- the next layer has the ones before value k, and those from it on, of which it is one
+    -- the next layer has as many values as ones, of which value k is one
     pub answer-more : (number (take 1 (drop (at + k) bs)) ≡ 0 → ⊥)
         → let before = sum (take k (drop at bs)) in
-        let rest = sum (take (n - k) (drop (at + k) bs)) in
-        (1 ≤ rest)
-        × (answer bs b at n k s a ≡ answer bs b (at + n + n * b) (before + rest) before (min (s + b) 32) (a + chunkAt bs b at n k * 2 ^ s))
+        let all = sum (take n (drop at bs)) in
+        (before < all) × (answer bs b at n k s a ≡ answer bs b (at + n + n * b) all before (min (s + b) 32) (a + chunkAt bs b at n k * 2 ^ s))
     answer-more z =
         let e : k + (n - k) ≡ n = omega arith in
-        let all : sum (take n (drop at bs)) ≡ sum (take k (drop at bs)) + sum (take (n - k) (drop (at + k) bs)) =
-        rw (e, drop-drop k at bs) at (sum-take-add k (n - k) (drop at bs)) in (
-          first-one (drop (at + k) bs) (n - k) (omega arith) z,
-          rw (← all, layer-there, ne-eqb (number (take 1 (drop (at + k) bs))) 0 z) (next s b a (chunkAt bs b at n k) (deeper bs b at n k)),
-        )
+        let all = rw (e, drop-drop k at bs) at (sum-take-add k (n - k) (drop at bs)) in
+        let one = first-one (drop (at + k) bs) (n - k) (omega arith) z in
+        (omega arith, rw (layer-there, ne-eqb (number (take 1 (drop (at + k) bs))) 0 z) (next s b a (chunkAt bs b at n k) (deeper bs b at n k)))

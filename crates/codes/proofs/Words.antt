@@ -1,10 +1,9 @@
 -- Bits of a part, read by bytes and counted by words.
 use mathlib.Core.Path.{_≡_, refl, sym, _∙_}
 use mathlib.Core.List.{List, [], _∷_, append-nil}
-use Prim.Native.Nat.{ℕ, zero, suc, _+_, _-_, _*_, _/_, _%_, _^_, _≤_, _<_, min}
-use native.Mathlib.Nat.{min-eq-left, min-eq-right, div-one}
+use Prim.Native.Nat.{ℕ, zero, suc, _+_, _-_, _*_, _/_, _%_, _^_, _≤_, _<_}
+use native.Mathlib.Nat.{div-one}
 use native.Mathlib.Numerals.{add-one}
-use native.Mathlib.Decide.{decLe}
 use native.Mathlib.Omega.{arith}
 use lib.ListN.{length, take, drop, getD, length-drop}
 use lib.Seq.{take-all, take-take, take-add, drop-drop, length-take-le}
@@ -159,17 +158,3 @@ ones-reversed (suc k) bytes i h b =
       rw (swap, e', pow-add 2 8 (k * 8)) (digits-lt {c = 2 ^ (k * 8)} (b (i + k)) (ih .0)),
       rw (swap, ones-cat (k * 8) x r (ih .0), here, e, ones-more bytes (i * 8) (k * 8) 8, e'') (omega arith),
     )
-
--- bits, where there are any, begin at a whole byte
-pub ones-whole : (bytes : List ℕ) (start n : ℕ) → (0 < n → start / 8 * 8 ≡ start) → sum (take n (from bytes (start / 8 * 8))) ≡ sum (take n (from bytes start))
-ones-whole bytes start zero h = refl
-ones-whole bytes start (suc n) h = rw (h (omega arith))
-
--- bits up to a whole byte, of which there may be fewer, and then a word
-pub whole-byte : (from to : ℕ) → from ≤ to → let start = from + min (to - from) (7 - (from + 7) % 8) in
-    0 < (to - start) / 64 → start / 8 * 8 ≡ start
-whole-byte from to h w =
-    elim (decLe (7 - (from + 7) % 8) (to - from)) [ yes l ↦ rw (min-eq-right l) (omega arith) | no l ↦ absurd (none (min-eq-left (omega arith)) w) ]
-  where
-    none : min (to - from) (7 - (from + 7) % 8) ≡ to - from → 0 < (to - (from + min (to - from) (7 - (from + 7) % 8))) / 64 → ⊥
-    none e k = let z : 0 < (to - (from + (to - from))) / 64 = rw e at k in omega arith

@@ -1,4 +1,5 @@
 -- A fetch: value j of a level of count values, from the level's part alone.
+use mathlib.Core.Path.{_≡_}
 use mathlib.Core.Bool.{cond}
 use mathlib.Core.List.{List}
 use Prim.Native.Nat.{ℕ, zero, suc, _+_, _*_, _^_}
@@ -6,6 +7,7 @@ use lib.Dec.{eqb, ltb}
 use lib.ListN.{length, take, drop, getD}
 use Rattle.codes.specs.declared.kinds.Kind.{Kind}
 use Rattle.codes.specs.declared.kinds.Kind.the-variants.{Fixed, Chunked, Refused}
+use Rattle.codes.specs.declared.fetching.Layer.{Layer}
 use Rattle.codes.specs.declared.fetching.Found.{Found}
 use Rattle.codes.specs.declared.fetching.Found.the-variants.{Value, Outside}
 use Rattle.codes.specs.Bits.{number, sum, bitsOf}
@@ -68,3 +70,11 @@ shortAt Refused j bs = 2 ^ 32
 
 abbrev pub shortFetched : ℕ → ℕ → List ℕ → ℕ
 shortFetched code j bytes = shortAt (kindOf code) j (bitsOf bytes)
+
+-- ---- the next layer, cited by a private function alone
+
+-- the layer after one, and the place in it of the value that is fetched
+pub record NextLayer (b : ℕ) (bs : List ℕ) (l r : Layer) : Type 0 where
+  pub begins : r .at ≡ l .at + l .count + l .count * b
+  pub count-is : r .count ≡ sum (take (l .count) (drop (l .at) bs))
+  pub index-is : r .index ≡ sum (take (l .index) (drop (l .at) bs))

@@ -1,4 +1,4 @@
--- What the level codes mean. A reader of the public contracts needs Lists, Bits, Codes, Choice, Fetch and Decode; Marked has
+-- What the level codes mean. A reader of the public contracts needs Lists, Bits, Codes, Choice, Fetch, Marks and Decode; Marked has
 -- the marked parts, Promises what is shown besides the contracts. Measure, Written, Radix, Merging and Streams are cited by private functions
 -- alone.
 pub mod Lists
@@ -6,6 +6,7 @@ pub mod Bits
 pub mod Codes
 pub mod Choice
 pub mod Fetch
+pub mod Marks
 pub mod Decode
 pub mod Marked
 pub mod Promises

@@ -1,5 +1,5 @@
 -- What is shown of the level codes besides each function's contract. proofs/Promises proves each, as
--- `round-trip`, `lengths`, `best-choice`, `code-known`, `least-width`, `decode-fetches`, `decode-back`, `decoded-part`, `chosen-parts` and `short-fetches`.
+-- `round-trip`, `lengths`, `best-choice`, `code-known`, `least-width`, `decode-fetches`, `decode-back`, `decoded-part`, `chosen-parts`, `short-fetches` and `zero-marks`.
 use mathlib.Core.Path.{_≡_}
 use mathlib.Core.Bool.{true}
 use mathlib.Core.List.{List, _++_, map}
@@ -11,6 +11,7 @@ use Rattle.codes.specs.Bits.{sum, bitsOf, bytesFor}
 use Rattle.codes.specs.Codes.{kindOf, part, Within, Holds}
 use Rattle.codes.specs.Choice.{widthIn, chunks, size, chosen, isChosen}
 use Rattle.codes.specs.Fetch.{value, fetched, shortFetched}
+use Rattle.codes.specs.Marks.{Marks}
 use Rattle.codes.specs.Decode.{all, decoded}
 
 -- 1. By any code that holds the values, a fetch from their part, followed by any bytes or none, gives each value back.
@@ -73,3 +74,7 @@ pub record ChosenParts : Type 0 where
 -- 10. A short fetch that says something says what any fetch finds, however many values there are.
 abbrev pub ShortFetches : Type 0
 ShortFetches = (code count j : ℕ) (bytes : List ℕ) → shortFetched code j bytes < 2 ^ 32 → fetched code count j bytes ≡ value (shortFetched code j bytes)
+
+-- 11. Entries that are all 0 are marks of any part.
+abbrev pub ZeroMarks : Type 0
+ZeroMarks = (bytes ms : List ℕ) → ((j : ℕ) → getD ms j 0 ≡ 0) → Marks bytes ms

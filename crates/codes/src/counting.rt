@@ -1,6 +1,5 @@
 // Bits of a part that are 1, counted by 64-bit words.
 use super::reading::byte;
-use super::reading::least;
 use super::reading::read;
 ghost use mathlib.Core.Path.{_≡_};
 ghost use Prim.Native.Nat.{_+_, _*_, _-_, _%_, _^_, _<_, _≤_};
@@ -134,12 +133,16 @@ fn ones_in_words(part: &[u8], first: usize, words: usize) -> usize
     ones_in_streams(part, first, turns) + ones_in_few(part, first + turns * 120, words % 30)
 }
 
-// How many of the bits from `from` up to `to` are 1: those up to a whole byte, whole words, and what is left.
+// How many of the bits from `from` up to `to` are 1. Fewer than 58 are counted by one read. Of more, first those up to a whole byte,
+// then whole words, then what is left.
 pub(crate) fn count_ones(part: &[u8], from: usize, to: usize) -> usize
     requires { ⌜ (from ≤ to) × (to ≤ length (now part) * 8) × (length (now part) < 2 ^ 32) ⌝ }
     ensures { λ r. ⌜ (r ≤ to - from) × (r ≡ sum (take (to - from) (drop from (bitsOf (now (part .entry)))))) ⌝ }
 {
-    let head = least(to - from, 7 - (from + 7) % 8);
+    if to - from < 58 {
+        return ones_at(part, from, to - from);
+    }
+    let head = 7 - (from + 7) % 8;
     let start = from + head;
     let words = (to - start) / 64;
     let tail = start + words * 64;

@@ -1,15 +1,17 @@
 // One value of a level, from the level's part alone.
-use super::counting::count_ones;
 use super::kinds::Kind;
 use super::kinds::kind_of;
+use super::marking::Mark;
+use super::marking::count_on;
 use super::reading::least;
 use super::reading::read;
 use super::reading::read_short;
 ghost use mathlib.Core.Path.{_≡_};
-ghost use Prim.Native.Nat.{ℕ, _+_, _*_, _-_, _^_, _<_, _≤_};
+ghost use Prim.Native.Nat.{_+_, _*_, _^_, _<_, _≤_};
 ghost use lib.ListN.{length, take, drop};
-ghost use Rattle.codes.specs.Bits.{number, sum, bitsOf};
-ghost use Rattle.codes.specs.Fetch.{found, fixedAt, chunkedAt, within32, fetched, shortFetched};
+ghost use Rattle.codes.specs.Bits.{number, bitsOf};
+ghost use Rattle.codes.specs.Fetch.{found, fixedAt, chunkedAt, within32, fetched, shortFetched, NextLayer};
+ghost use Rattle.codes.specs.Marks.{Marks};
 
 // What a fetch finds: a value, or that it passes its part or the value is 2^32 or more.
 pub enum Found {
@@ -54,31 +56,37 @@ fn chunk_at(part: &[u8], at: usize, b: usize, shift: usize) -> u64
     read(part, at, b) << shift
 }
 
-// The layer after one that lies whole in the part: its values are those whose continuation bit is 1.
-fn next_layer(part: &[u8], b: usize, layer: Layer) -> Layer
-    requires { ⌜ (b ≤ 8) × (layer .index ≤ layer .count) × (length (now part) < 2 ^ 32) ⌝ }
+// The layer after one that lies whole in the part: its values are those whose continuation bit is 1. Mark `k` counts those before the value,
+// and the mark after it those of the whole layer.
+fn next_layer(marks: &mut [usize], k: usize, part: &[u8], b: usize, layer: Layer) -> Layer
+    requires { ⌜ (b ≤ 8) × (layer .index ≤ layer .count) × (length (now part) < 2 ^ 32) × (k < 2 ^ 40) ⌝ }
     requires { ⌜ layer .at + layer .count + layer .count * b ≤ length (now part) * 8 ⌝ }
-    ensures { λ r. ⌜ (r .at ≡ layer .at + layer .count + layer .count * b)
-        × (r .index ≡ sum (take (layer .index) (drop (layer .at) (bitsOf (now (part .entry))))))
-        × (r .count ≡ r .index + sum (take (layer .count - layer .index) (drop (layer .at + layer .index) (bitsOf (now (part .entry))))))
-        × (r .count ≤ layer .count) ⌝ }
+    requires { ⌜ Marks (now part) (now marks) ⌝ }
+    ensures { λ r. ⌜ NextLayer b (bitsOf (now (part .entry))) layer r ⌝ }
+    ensures { λ r. ⌜ Marks (now (part .entry)) (now (marks .exit)) ⌝ }
 {
-    let own = layer.at + layer.index;
     let chunks = layer.at + layer.count;
-    let before = count_ones(part, layer.at, own);
-    let after = count_ones(part, own, chunks);
+    let none = Mark {
+        from: layer.at,
+        to: layer.at,
+        ones: 0,
+    };
+    let before = count_on(marks, k, part, none, layer.at + layer.index);
+    let all = count_on(marks, k + 1, part, before, chunks);
     Layer {
         at: chunks + layer.count * b,
-        count: before + after,
-        index: before,
+        count: all.ones,
+        index: before.ones,
     }
 }
 
 // Value `index` of `count` in the layers of b-bit chunks that the part begins with. Above 32 bits only zeros are left, so the
 // shift stops there.
-fn fetch_chunked(part: &[u8], b: usize, count: usize, index: usize) -> Found
+fn fetch_chunked(marks: &mut [usize], part: &[u8], b: usize, count: usize, index: usize) -> Found
     requires { ⌜ (1 ≤ b) × (b ≤ 8) × (index < count) × (length (now part) < 2 ^ 32) ⌝ }
+    requires { ⌜ Marks (now part) (now marks) ⌝ }
     ensures { λ r. ⌜ found r ≡ within32 (chunkedAt b count index (bitsOf (now (part .entry)))) ⌝ }
+    ensures { λ r. ⌜ Marks (now (part .entry)) (now (marks .exit)) ⌝ }
 {
     let end = part.len() * 8;
     if end < count {
@@ -89,6 +97,7 @@ fn fetch_chunked(part: &[u8], b: usize, count: usize, index: usize) -> Found
         count: count,
         index: index,
     };
+    let mut k: usize = 0;
     let mut shift: usize = 0;
     let mut acc: u64 = 0;
     while layer.count + layer.count * b <= end - layer.at {
@@ -99,21 +108,24 @@ fn fetch_chunked(part: &[u8], b: usize, count: usize, index: usize) -> Found
         if read(part, layer.at + layer.index, 1) == 0 {
             return Found::Value(acc as u32);
         }
-        layer = next_layer(part, b, layer);
+        layer = next_layer(marks, k, part, b, layer);
+        k += 2;
         shift = least(shift + b, 32);
     }
     Found::Outside
 }
 
-// Value `index` of a level of `count` values, in code `code`, from the level's part alone.
-pub fn fetch(part: &[u8], code: u8, count: usize, index: usize) -> Found
-    requires { ⌜ (index < count) × (length (now part) < 2 ^ 32) ⌝ }
+// Value `index` of a level of `count` values, in code `code`, from the level's part alone. Any number of marks serves, also none; at first they
+// are all 0. Fetches of rising indices with the same marks count each continuation bit at most twice: in its layer's total, and before a value.
+pub fn fetch(marks: &mut [usize], part: &[u8], code: u8, count: usize, index: usize) -> Found
+    requires { ⌜ (index < count) × (length (now part) < 2 ^ 32) × Marks (now part) (now marks) ⌝ }
     ensures { λ r. ⌜ found r ≡ fetched code count index (now (part .entry)) ⌝ }
+    ensures { λ r. ⌜ Marks (now (part .entry)) (now (marks .exit)) ⌝ }
 {
     let kind = kind_of(code);
     match kind {
         Kind::Fixed(w) => fetch_fixed(part, w, index),
-        Kind::Chunked(b) => fetch_chunked(part, b, count, index),
+        Kind::Chunked(b) => fetch_chunked(marks, part, b, count, index),
         Kind::Refused => Found::Outside,
     }
 }

@@ -7,6 +7,7 @@ mod encoding; // a level's part, written
 mod fetching; // one value, from the part alone
 mod kinds; // what a code byte says
 mod layering; // the layers of a chunked code, written
+mod marking; // bits that were counted, for the next count
 mod measuring; // how many values have how many bits
 mod reading; // bits of a part, by bytes
 mod writing; // bits into a buffer, one after the other

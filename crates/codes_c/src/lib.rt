@@ -47,7 +47,8 @@ pub extern "C" fn level_fetch(part: &[u8], code: u8, count: usize, index: usize)
     requires { ⌜ (index < count) × (length (now part) < 2 ^ 32) ⌝ }
     ensures { λ r. ⌜ r ≡ fetchedNumber (fetched code count index (now (part .entry))) ⌝ }
 {
-    let found = codes::fetch(part, code, count, index);
+    let mut none = [0usize; 0];
+    let found = codes::fetch(&mut none, part, code, count, index);
     match found {
         Found::Value(v) => v as u64,
         Found::Outside => 4294967296,
