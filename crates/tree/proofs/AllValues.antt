@@ -16,7 +16,7 @@ use Rattle.codes.specs.Decode.{Decoded, all, undecoded, decoded, isDecoded, dec
 use Rattle.codes.proofs.Promises.{decode-fetches}
 use Rattle.tree.specs.declared.nodes.Levels.{Levels}
 use Rattle.tree.specs.Shape.{height}
-use Rattle.tree.specs.Levels.{firstOf, countOf, codeOf, partOf, levelValues}
+use Rattle.tree.specs.Levels.{firstOf, countOf, codeOf, partOf, partBelow, levelValues}
 use Rattle.tree.specs.DecodedLevels.{decodedAt, joined, decodedTo, decodedLevels}
 use Rattle.tree.specs.Merged.{KnownValues}
 use Rattle.tree.proofs.Heights.{height-bound, level-starts}
@@ -52,8 +52,7 @@ module _ (levels : Levels) (s : List ℕ) where
   n = levels .pins
 
   -- the level below d others, by the numbers that the code has
-  pub decoded-level : (d : ℕ) → decodedAt levels s (suc d) ≡ decoded (getD (levels .codes) d 0) (min (n + 1 - 2 ^ d) (2 ^ d))
-      (take (getD (levels .ends) (d + 1) 0 - getD (levels .ends) d 0) (drop (getD (levels .ends) d 0) s))
+  pub decoded-level : (d : ℕ) → decodedAt levels s (suc d) ≡ decoded (getD (levels .codes) d 0) (min (n + 1 - 2 ^ d) (2 ^ d)) (partBelow (levels .ends) s d)
   unfolding partOf
   decoded-level d = let e : suc d - 1 ≡ d = omega arith in rw (count-is n d, e, add-one d)
 
@@ -143,11 +142,11 @@ module _ (levels : Levels) (s : List ℕ) where
 
     -- by the numbers that the code has
     pub level-decodes : (d : ℕ) → d < height n → let vs = levelValues values (suc d) in
-        decoded (getD (levels .codes) d 0) (length vs) (take (getD (levels .ends) (d + 1) 0 - getD (levels .ends) d 0) (drop (getD (levels .ends) d 0) s)) ≡ all vs
+        decoded (getD (levels .codes) d 0) (length vs) (partBelow (levels .ends) s d) ≡ all vs
     level-decodes d h =
         let vs = levelValues values (suc d) in
         let own = decoded-values (suc d) (omega arith) h in
-        ap (λ (m : ℕ). decoded (getD (levels .codes) d 0) m (take (getD (levels .ends) (d + 1) 0 - getD (levels .ends) d 0) (drop (getD (levels .ends) d 0) s)))
+        ap (λ (m : ℕ). decoded (getD (levels .codes) d 0) m (partBelow (levels .ends) s d))
         (decoded-length d vs own ∙ count-is n d) ∙ sym (decoded-level d) ∙ own
 
     pub known-values : KnownValues levels s values

@@ -6,14 +6,14 @@ use Prim.Native.Nat.{ℕ, zero, suc, _+_, _-_, _≤_, _<_}
 use native.Mathlib.Numerals.{add-one}
 use native.Mathlib.Decide.{ℕ-discrete}
 use native.Mathlib.Omega.{arith}
-use lib.ListN.{length, take, drop, getD}
+use lib.ListN.{length, getD}
 use Rattle.codes.specs.Choice.{isChosen}
 use Rattle.codes.specs.Decode.{Decoded, all, undecoded, isDecoded}
 use Rattle.codes.proofs.Promises.{chosen-parts}
 use Rattle.tree.specs.declared.nodes.Levels.{Levels}
 use Rattle.tree.specs.Shape.{height}
 use Rattle.tree.specs.Stored.{storedValues}
-use Rattle.tree.specs.Levels.{codeOf, partOf, levelValues}
+use Rattle.tree.specs.Levels.{codeOf, partOf, partBelow, levelValues}
 use Rattle.tree.specs.DecodedLevels.{decodedAt, joined, decodedTo, decodedLevels}
 use Rattle.tree.specs.Chosen.{chosenBy, levelChosen, chosenTo, allChosen}
 use Rattle.tree.specs.Promises.{StoredChosen}
@@ -22,7 +22,7 @@ use Rattle.tree.proofs.LevelValues.{decoded-back}
 module _ (levels : Levels) (s : List ℕ) where
   -- the level below d others, by what it is decoded to
   pub chosen-level : (d : ℕ) (vs : List ℕ) → decodedAt levels s (suc d) ≡ all vs
-      → levelChosen levels s (suc d) ≡ isChosen (getD (levels .codes) d 0) vs (take (getD (levels .ends) (d + 1) 0 - getD (levels .ends) d 0) (drop (getD (levels .ends) d 0) s))
+      → levelChosen levels s (suc d) ≡ isChosen (getD (levels .codes) d 0) vs (partBelow (levels .ends) s d)
   unfolding partOf
   chosen-level d vs e =
       let p : suc d - 1 ≡ d = omega arith in

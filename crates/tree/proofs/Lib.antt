@@ -7,6 +7,7 @@ pub mod Dropping
 pub mod Fills
 pub mod Heights
 pub mod Inorder
+pub mod LevelMarks
 pub mod LevelMerges
 pub mod LevelRanks
 pub mod LevelValues

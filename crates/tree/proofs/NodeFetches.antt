@@ -5,11 +5,11 @@ use Prim.Native.Nat.{ℕ, suc, _+_, _-_, _*_, _^_, _≤_, _<_, min}
 use native.Mathlib.Nat.{pow-succ'}
 use native.Mathlib.Numerals.{add-one}
 use native.Mathlib.Omega.{arith}
-use lib.ListN.{length, take, drop, getD}
+use lib.ListN.{length, getD, length-take}
 use lib.Pow.{pow-pos, pow-mono}
 use Rattle.codes.specs.Fetch.{Fetched, fetched}
 use Rattle.tree.specs.declared.nodes.Levels.{Levels}
-use Rattle.tree.specs.Levels.{countOf, partOf, fetchedAt, Fits}
+use Rattle.tree.specs.Levels.{countOf, partOf, partBelow, fetchedAt, Fits}
 use Rattle.tree.proofs.Heights.{height-is, height-above, height-bound}
 
 -- how many nodes the level below d others has
@@ -30,8 +30,7 @@ count-between n d first last e l =
 -- from the level below d others, which begins with node `first`
 abbrev pub fetchIn : Levels → List ℕ → ℕ → ℕ → ℕ → Fetched
 fetchIn at s d v first =
-    fetched (getD (at .codes) d 0) (min (at .pins + 1 - first) first) (v - first)
-    (take (getD (at .ends) (d + 1) 0 - getD (at .ends) d 0) (drop (getD (at .ends) d 0) s))
+    fetched (getD (at .codes) d 0) (min (at .pins + 1 - first) first) (v - first) (partBelow (at .ends) s d)
 
 fetched-at : (at : Levels) (s : List ℕ) (d v : ℕ) → 2 ^ d ≤ v → v < 2 * 2 ^ d → fetchedAt at s v ≡ fetchIn at s d v (2 ^ d)
 unfolding fetchedAt partOf
@@ -63,3 +62,10 @@ level-fits {at} {s} {d} f lo hi =
       inside = f .inside d h;
       short = f .short d h;
     }
+
+-- a node's place on its level is below the number of nodes there
+pub index-below : (n d v first count : ℕ) → first ≡ 2 ^ d → 2 ^ d ≤ v → v < 2 * 2 ^ d → v ≤ n → count ≡ min (n + 1 - first) first → v - first < count
+index-below n d v first count e lo hi k c = omega arith
+
+pub part-short : {at : Levels} {s : List ℕ} {d : ℕ} → Level at s d → length (partBelow (at .ends) s d) < 2 ^ 32
+part-short l = rw length-take (omega (arith, l .short))

@@ -15,7 +15,7 @@ use Rattle.tree.specs.Times.{at, timesIn}
 use Rattle.tree.specs.Listing.{nowhere, timesFrom, timesAll, stopAll}
 use Rattle.tree.specs.Walks.{toward, accessAnswer, searchNodes, searchAnswer}
 use Rattle.tree.specs.Sweeps.{sweep}
-use Rattle.tree.specs.Promises.{HeightLeast, Shape, Held, Contents, SearchFinds, AccessOpens, StoredLevels, ListingFinds, SweepFinds, ChosenStored, StoredChosen}
+use Rattle.tree.specs.Promises.{HeightLeast, Shape, Held, Contents, SearchFinds, AccessOpens, StoredLevels, ListingFinds, SweepFinds, ChosenStored, StoredChosen, ZeroMarks}
 use Rattle.tree.proofs.Heights.{digits, height-bound, height-le, height-is}
 use Rattle.tree.proofs.Stretches.{stretch-root, stretch-left, stretch-right, node-iff}
 use Rattle.tree.proofs.Inorder.{tree}
@@ -27,6 +27,7 @@ use Rattle.tree.proofs.Contents.{times-back}
 use Rattle.tree.proofs.Listings.{times-end, times-known}
 use Rattle.tree.proofs.TimeBounds.{times-within}
 use Rattle.tree.proofs.ListedValues.{listed-chosen}
+use Rattle.tree.proofs.LevelMarks.{marks-zero}
 use Rattle.tree.proofs.LevelsChosen.{codes-chosen}
 use Rattle.tree.proofs.LevelValues.{length-stored, stored-within, level-within, level-half, level-above, fetched-stored}
 
@@ -127,3 +128,6 @@ chosen-stored = listed-chosen
 
 pub stored-chosen : StoredChosen
 stored-chosen = codes-chosen
+
+pub zero-marks : ZeroMarks
+zero-marks = marks-zero

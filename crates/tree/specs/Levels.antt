@@ -31,6 +31,10 @@ codeOf at l = getD (at .codes) (l - 1) 0
 unfoldable pub partOf : Levels → List ℕ → ℕ → List ℕ
 partOf at s l = take (getD (at .ends) l 0 - getD (at .ends) (l - 1) 0) (drop (getD (at .ends) (l - 1) 0) s)
 
+-- the part of the level below d others, by the levels' ends
+abbrev pub partBelow : List ℕ → List ℕ → ℕ → List ℕ
+partBelow ends s d = take (getD ends (d + 1) 0 - getD ends d 0) (drop (getD ends d 0) s)
+
 -- what is fetched for node v, from the part of its level alone
 unfoldable pub fetchedAt : Levels → List ℕ → ℕ → Fetched
 fetchedAt at s v =

@@ -1,10 +1,11 @@
 -- What the tree means. A reader of the public contracts needs Shape, Lists, Stored, Levels, Times, Walks, Sweeps, Buffers, Listing,
--- DecodedLevels and Chosen; Marked has lists with what their nodes store, Promises what is shown besides the contracts. Filled,
+-- LevelMarks, DecodedLevels and Chosen; Marked has lists with what their nodes store, Promises what is shown besides the contracts. Filled,
 -- Standing, Merged and Remembering are cited by private functions alone.
 pub mod Shape
 pub mod Lists
 pub mod Stored
 pub mod Levels
+pub mod LevelMarks
 pub mod Times
 pub mod Walks
 pub mod Sweeps

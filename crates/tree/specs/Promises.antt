@@ -1,12 +1,12 @@
 -- What is shown of the tree besides each function's contract. proofs/Promises proves each, as `height-least`, `shape`, `contents`,
--- `search-finds`, `access-opens`, `stored-levels`, `listing-finds`, `sweep-finds`, `chosen-stored` and `stored-chosen`.
+-- `search-finds`, `access-opens`, `stored-levels`, `listing-finds`, `sweep-finds`, `chosen-stored`, `stored-chosen` and `zero-marks`.
 use mathlib.Core.Path.{_≡_}
 use mathlib.Core.Logic.{_≢_, _↔_}
 use mathlib.Core.Bool.{Bool, true, false}
 use mathlib.Core.List.{List, map}
 use Prim.Native.Nat.{ℕ, suc, _-_, _*_, _+_, _^_, _≤_, _<_, min}
 use lib.Dec.{T}
-use lib.ListN.{length, getD}
+use lib.ListN.{length, getD, replicate}
 use Rattle.codes.specs.Codes.{part, Within}
 use Rattle.codes.specs.Choice.{chosen}
 use Rattle.tree.specs.declared.nodes.Levels.{Levels}
@@ -14,6 +14,7 @@ use Rattle.tree.specs.Shape.{height, sideOf, stretch, rank}
 use Rattle.tree.specs.Lists.{ordered, smaller}
 use Rattle.tree.specs.Stored.{timeOf, storedValues}
 use Rattle.tree.specs.Levels.{firstOf, levelOf, codeOf, partOf, levelValues, Stores}
+use Rattle.tree.specs.LevelMarks.{LevelMarks}
 use Rattle.tree.specs.Times.{Time, at, timesIn}
 use Rattle.tree.specs.Listing.{nowhere, accesses, timesFrom, stopFrom, timesAll, stopAll, endOf}
 use Rattle.tree.specs.Chosen.{allChosen}
@@ -110,3 +111,7 @@ abbrev pub StoredChosen : Type 0
 StoredChosen = (levels : Levels) (s xs : List ℕ) → Stores levels s xs
     → ((l : ℕ) → 1 ≤ l → l ≤ height (length xs) → codeOf levels l ≡ chosen (levelValues (storedValues xs) l) .code)
     → allChosen levels s ≡ true
+
+-- 10. Entries that are all 0 are marks of any levels, however many they are.
+abbrev pub ZeroMarks : Type 0
+ZeroMarks = (ends s : List ℕ) (n : ℕ) → LevelMarks ends s (replicate n 0)

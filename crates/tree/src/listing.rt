@@ -45,7 +45,17 @@ fn list_under(
     if pins == 0 {
         return Listed::All;
     }
-    let told = open_full(s, &levels.ends, &levels.codes, levels.pins, depth, v, above);
+    let mut none = [0usize; 0];
+    let told = open_full(
+        &mut none,
+        s,
+        &levels.ends,
+        &levels.codes,
+        levels.pins,
+        depth,
+        v,
+        above,
+    );
     if told >= LIMIT {
         return Listed::Refused(start, refusal_of(v, told));
     }

@@ -7,6 +7,7 @@ ghost use mathlib.Core.Path.{_≡_};
 ghost use Prim.Native.Nat.{_*_, _^_, _≤_, _<_};
 ghost use Rattle.codes.specs.Fetch.{value};
 ghost use Rattle.tree.specs.Levels.{levelsOf, Fits};
+ghost use Rattle.tree.specs.LevelMarks.{LevelMarks};
 ghost use Rattle.tree.specs.Times.{at, refused, numberOf, nodeOf, under, timeTold, timeFetched};
 
 // The pin count, each level's code byte and each level's end. Entry 0 of the ends is where the first level starts; so the part
@@ -63,8 +64,10 @@ fn time_under(v: usize, above: u32, d: u32) -> u64
     time - LIMIT
 }
 
-// Opens node v of n by a fetch from its level's part alone. It has `depth` levels and the time `above` above it.
+// Opens node v of n by a fetch from its level's part alone. It has `depth` levels and the time `above` above it. Each of 16 levels has
+// a sixteenth of the marks.
 pub(crate) fn open_full<'a>(
+    marks: &mut [usize],
     s: &[u8],
     ends: &'a [usize; 17],
     codes: &'a [u8; 16],
@@ -73,16 +76,20 @@ pub(crate) fn open_full<'a>(
     v: usize,
     above: u32,
 ) -> u64
-    requires { ⌜ Fits (levelsOf n (now codes) (now ends)) (now s) ⌝ }
+    requires { ⌜ Fits (levelsOf n (now codes) (now ends)) (now s) × LevelMarks (now ends) (now s) (now marks) ⌝ }
     requires { ⌜ (2 ^ depth ≤ v) × (v < 2 * 2 ^ depth) × (v ≤ n) ⌝ }
     ensures { λ r. ⌜ timeTold v r ≡ timeFetched (levelsOf n (now (codes .entry)) (now (ends .entry))) (now (s .entry)) above v ⌝ }
+    ensures { λ r. ⌜ LevelMarks (now (ends .entry)) (now (s .entry)) (now (marks .exit)) ⌝ }
 {
     let start = ends[depth];
     let end = ends[depth + 1];
     let code = codes[depth];
     let first = power_of_two(depth);
     let count = least(n + 1 - first, first);
-    let found = codes::fetch(&s[start..end], code, count, v - first);
+    let room = marks.len() / 16;
+    let from = depth * room;
+    let to = from + room;
+    let found = codes::fetch(&mut marks[from..to], &s[start..end], code, count, v - first);
     match found {
         Found::Value(d) => time_under(v, above, d),
         Found::Outside => OUTSIDE,
@@ -92,6 +99,7 @@ pub(crate) fn open_full<'a>(
 // As `open_full`, for the loops of the walks: `fetch_short` has most values of fixed codes. Where it says nothing it has read nothing of
 // the part, so a node's value is read by one fetch.
 pub(crate) fn open_node<'a>(
+    marks: &mut [usize],
     s: &[u8],
     ends: &'a [usize; 17],
     codes: &'a [u8; 16],
@@ -100,9 +108,10 @@ pub(crate) fn open_node<'a>(
     v: usize,
     above: u32,
 ) -> u64
-    requires { ⌜ Fits (levelsOf n (now codes) (now ends)) (now s) ⌝ }
+    requires { ⌜ Fits (levelsOf n (now codes) (now ends)) (now s) × LevelMarks (now ends) (now s) (now marks) ⌝ }
     requires { ⌜ (2 ^ depth ≤ v) × (v < 2 * 2 ^ depth) × (v ≤ n) ⌝ }
     ensures { λ r. ⌜ timeTold v r ≡ timeFetched (levelsOf n (now (codes .entry)) (now (ends .entry))) (now (s .entry)) above v ⌝ }
+    ensures { λ r. ⌜ LevelMarks (now (ends .entry)) (now (s .entry)) (now (marks .exit)) ⌝ }
 {
     let start = ends[depth];
     let end = ends[depth + 1];
@@ -111,5 +120,5 @@ pub(crate) fn open_node<'a>(
     if short < LIMIT {
         return time_under(v, above, short as u32);
     }
-    open_full(s, ends, codes, n, depth, v, above)
+    open_full(marks, s, ends, codes, n, depth, v, above)
 }

@@ -4,12 +4,14 @@ use super::nodes::Refusal;
 use super::shape::missing_at;
 use super::targets::Progress;
 use super::targets::Walked;
+use super::targets::Way;
 use super::targets::go_down;
 use super::targets::resumed;
 ghost use mathlib.Core.Path.{_≡_};
 ghost use Prim.Native.Nat.{_≤_};
 ghost use lib.ListN.{length};
 ghost use Rattle.tree.specs.Levels.{Fits};
+ghost use Rattle.tree.specs.LevelMarks.{LevelMarks};
 ghost use Rattle.tree.specs.Buffers.{replaced};
 ghost use Rattle.tree.specs.Sweeps.{sweepAll, swept};
 
@@ -20,11 +22,18 @@ pub enum Swept {
 }
 
 // Writes the position of each target to the front of `answers`, up to the first target that is refused. The missing child that a target
-// comes to stands just before the deepest remembered node, or at the end.
-pub fn sweep(answers: &mut [u32], s: &[u8], levels: Levels, targets: &[u32]) -> Swept
-    requires { ⌜ Fits levels (now s) × (length (now targets) ≤ length (now answers)) ⌝ }
+// comes to stands just before the deepest remembered node, or at the end. The marks are for speed alone; there may be none.
+pub fn sweep(
+    answers: &mut [u32],
+    marks: &mut [usize],
+    s: &[u8],
+    levels: Levels,
+    targets: &[u32],
+) -> Swept
+    requires { ⌜ Fits levels (now s) × LevelMarks (levels .ends) (now s) (now marks) × (length (now targets) ≤ length (now answers)) ⌝ }
     ensures { λ r. ⌜ swept r ≡ sweepAll levels (now (s .entry)) (now (targets .entry)) .answer ⌝ }
     ensures { λ r. ⌜ now (answers .exit) ≡ replaced (now (answers .entry)) 0 (sweepAll levels (now (s .entry)) (now (targets .entry)) .positions) ⌝ }
+    ensures { λ r. ⌜ LevelMarks (levels .ends) (now (s .entry)) (now (marks .exit)) ⌝ }
 {
     let mut nodes = [0usize; 16];
     let mut times = [0u32; 16];
@@ -38,7 +47,20 @@ pub fn sweep(answers: &mut [u32], s: &[u8], levels: Levels, targets: &[u32]) -> 
     while i < targets.len() {
         let target = targets[i];
         let from = resumed(&nodes, &times, progress, target);
-        let walked = go_down(s, levels, &mut nodes, &mut times, from, target);
+        let way = Way {
+            from: from,
+            target: target,
+        };
+        let walked = go_down(
+            &mut nodes,
+            &mut times,
+            marks,
+            s,
+            &levels.ends,
+            &levels.codes,
+            levels.pins,
+            way,
+        );
         match walked {
             Walked::To(next) => {
                 progress = next;

@@ -1,6 +1,5 @@
 // One target of a sweep: which remembered nodes it drops, and its way down.
 use super::nodes::LIMIT;
-use super::nodes::Levels;
 use super::nodes::Refusal;
 use super::nodes::open_node;
 use super::nodes::refusal_of;
@@ -9,7 +8,8 @@ use super::shape::height;
 ghost use mathlib.Core.Path.{_≡_};
 ghost use Prim.Native.Nat.{ℕ, _^_, _≤_, _<_};
 ghost use lib.ListN.{getD};
-ghost use Rattle.tree.specs.Levels.{Fits};
+ghost use Rattle.tree.specs.Levels.{levelsOf, Fits};
+ghost use Rattle.tree.specs.LevelMarks.{LevelMarks};
 ghost use Rattle.tree.specs.Remembering.{leftBy, GoesOn, resumedAt, Leaves};
 
 // The nodes left by their left side are remembered, the deepest last, with their times, in two arrays that the caller lends. There is at
@@ -67,20 +67,32 @@ pub(crate) fn resumed<'a>(
     }
 }
 
+// A target, and where it goes on.
+pub(crate) struct Way {
+    pub(crate) from: Progress,
+    pub(crate) target: u32,
+}
+
 // Opens nodes: to the left child where a node's time is at or above the target, else to the right one, until no child. A later target goes
 // mostly to the left, so a branch on the side is mostly predicted.
-pub(crate) fn go_down(
-    s: &[u8],
-    levels: Levels,
+pub(crate) fn go_down<'a>(
     nodes: &mut [usize; 16],
     times: &mut [u32; 16],
-    from: Progress,
-    target: u32,
+    marks: &mut [usize],
+    s: &[u8],
+    ends: &'a [usize; 17],
+    codes: &'a [u8; 16],
+    n: usize,
+    way: Way,
 ) -> Walked
-    requires { ⌜ Fits levels (now s) × GoesOn levels (now s) (now nodes) (now times) from ⌝ }
-    ensures { λ r. ⌜ Leaves levels (now (s .entry)) target (now (nodes .entry)) from (now (nodes .exit)) (now (times .exit)) r ⌝ }
+    requires { ⌜ Fits (levelsOf n (now codes) (now ends)) (now s) × GoesOn (levelsOf n (now codes) (now ends)) (now s) (now nodes) (now times) (way .from) ⌝ }
+    requires { ⌜ LevelMarks (now ends) (now s) (now marks) ⌝ }
+    ensures { λ r. ⌜ Leaves (levelsOf n (now (codes .entry)) (now (ends .entry))) (now (s .entry)) (way .target) (now (nodes .entry)) (way .from)
+        (now (nodes .exit)) (now (times .exit)) r ⌝ }
+    ensures { λ r. ⌜ LevelMarks (now (ends .entry)) (now (s .entry)) (now (marks .exit)) ⌝ }
 {
-    let n = levels.pins;
+    let from = way.from;
+    let target = way.target;
     let mut count = from.count;
     let mut v = from.v;
     let mut time = from.above;
@@ -88,7 +100,7 @@ pub(crate) fn go_down(
     let mut depth = height(v) - 1;
     while v <= n {
         opened += 1;
-        let told = open_node(s, &levels.ends, &levels.codes, n, depth, v, time);
+        let told = open_node(marks, s, ends, codes, n, depth, v, time);
         if told >= LIMIT {
             return Walked::Refused(refusal_of(v, told));
         }

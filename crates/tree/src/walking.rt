@@ -41,8 +41,9 @@ pub fn access(s: &[u8], levels: Levels, i: usize) -> Accessed
     while below > 0 {
         below -= 1;
         let v = goal >> below;
+        let mut none = [0usize; 0];
         nodes += 1;
-        let told = open_node(s, &levels.ends, &levels.codes, n, depth, v, time);
+        let told = open_node(&mut none, s, &levels.ends, &levels.codes, n, depth, v, time);
         if told >= LIMIT {
             return Accessed::Refused(refusal_of(v, told));
         }
@@ -64,8 +65,9 @@ pub fn search(s: &[u8], levels: Levels, target: u32) -> Searched
     let mut time: u32 = 0;
     let mut nodes: usize = 0;
     while v <= n {
+        let mut none = [0usize; 0];
         nodes += 1;
-        let told = open_node(s, &levels.ends, &levels.codes, n, depth, v, time);
+        let told = open_node(&mut none, s, &levels.ends, &levels.codes, n, depth, v, time);
         if told >= LIMIT {
             return Searched::Refused(refusal_of(v, told));
         }

@@ -5,12 +5,13 @@ use mathlib.Core.List.{List, _++_, append-nil}
 use Prim.Native.Nat.{ℕ, suc, _+_, _-_, _*_, _^_, _≤_, _<_, min}
 use native.Mathlib.Nat.{le-of-eq, pow-succ'}
 use native.Mathlib.Numerals.{add-one}
-use lib.ListN.{length, take, drop, getD, replicate, length-take, length-drop, drop-of-length-le}
+use lib.ListN.{length, take, getD, replicate, length-take, length-drop, drop-of-length-le}
 use lib.Seq.{take-all}
 use borrow.Author.Tests.{not-true, not-false}
 use borrow.Rule.Slice.PartMut.{midOf, putMid, same-len-mid, mid-len}
 use Rattle.codes.specs.Decode.{all, decoded, isDecoded, decodedOr0}
 use Rattle.tree.specs.Shape.{height}
+use Rattle.tree.specs.Levels.{partBelow}
 use Rattle.tree.specs.DecodedLevels.{decodedAt, decodedTo, decodedLevels}
 use Rattle.tree.proofs.Heights.{height-above, height-le}
 use Rattle.tree.proofs.NodeFetches.{count-is, count-between, Level, level-fits}
@@ -71,7 +72,7 @@ few c = let l = at-loop c .loop in mid-len (l .first - 1) (last c) (l .values) (
 -- what the level is decoded to, with as many values as the code has
 decodes : (c : tie.After-decode Inv-loop μ-loop) → let l = at-loop c .loop in let a = start (at-loop c) .args in
     decodedAt (a .t3) (a .s .now) (suc (l .depth)) ≡ decoded (getD (a .t3 .codes) (l .depth) 0) (length (midOf (l .first - 1) (last c - (l .first - 1)) (l .values)))
-    (take (getD (a .t3 .ends) (l .depth + 1) 0 - getD (a .t3 .ends) (l .depth) 0) (drop (getD (a .t3 .ends) (l .depth) 0) (a .s .now)))
+    (partBelow (a .t3 .ends) (a .s .now) (l .depth))
 decodes c =
     let l = at-loop c .loop in
     let a = start (at-loop c) .args in

@@ -5,6 +5,7 @@ use Prim.Native.Nat.{ℕ, _+_, _-_, _≤_, _<_}
 use lib.ListN.{length, set, length-set}
 use Rattle.tree.specs.Times.{at, timesIn}
 use Rattle.tree.specs.Listing.{timesFrom, stopFrom, listed}
+use Rattle.tree.proofs.LevelMarks.{marks-zero}
 use Rattle.tree.proofs.NodeFetches.{Level}
 use Rattle.tree.proofs.Steps.{stands-node, stands-place, stands-level, stands-told, stands-time}
 use Rattle.tree.proofs.Buffers.{replaced-none}
@@ -34,18 +35,18 @@ abbrev asked : ℕ → In 2 kinds.ps
 asked t = and 2 kinds.ps (falls 2 kinds.ps _<_ μ t) reads.Pre
 
 -- what is asked of the callees, and learnt from them
-abbrev calls : ℕ → In 2 open-full-kinds.ps × Out 2 open-full-kinds.ps open-full-kinds.r × In 0 refusal-of-kinds.ps × Out 0 refusal-of-kinds.ps refusal-of-kinds.r × In 0 root-place-kinds.ps × Out 0 root-place-kinds.ps root-place-kinds.r × In 2 kinds.ps × Out 2 kinds.ps kinds.r
+abbrev calls : ℕ → In 3 open-full-kinds.ps × Out 3 open-full-kinds.ps open-full-kinds.r × In 0 refusal-of-kinds.ps × Out 0 refusal-of-kinds.ps refusal-of-kinds.r × In 0 root-place-kinds.ps × Out 0 root-place-kinds.ps root-place-kinds.r × In 2 kinds.ps × Out 2 kinds.ps kinds.r
 calls t = (open-full-reads.Asked, open-full-reads.Learnt, refusal-of-reads.Asked, refusal-of-reads.Learnt, root-place-reads.Asked, root-place-reads.Learnt, asked t, reads.Post)
 
 -- the time of the node
-time-is : (t : ℕ) (c : lts.Else2 (calls t) (given t) reads.Post) → let a = c .before .before .before .before .before .before .before .before .args in timesIn (a .t3) (a .s .now) (a .v) ≡ at (c .before .open-full .result)
-time-is t c = stands-time (c .before .before .before .before .before .before .before .before .pre .1 .1 .0) (c .before .open-full .ensures) (omega arith)
+time-is : (t : ℕ) (c : lts.Else2 (calls t) (given t) reads.Post) → let a = c .before .before .before .before .before .before .before .before .before .before .args in timesIn (a .t3) (a .s .now) (a .v) ≡ at (c .before .before .open-full .result)
+time-is t c = stands-time (c .before .before .before .before .before .before .before .before .before .before .pre .1 .1 .0) (c .before .before .open-full .ensures .0) (omega arith)
 
 -- the node is one of the tree, and its level lies in the bytes; its place is in its stretch, and that in the list
-bounds : (t : ℕ) (c : lts.After-root-place (calls t) (given t) reads.Post) → let a = c .before .before .before .before .before .before .before .before .before .args in
+bounds : (t : ℕ) (c : lts.After-root-place (calls t) (given t) reads.Post) → let a = c .before .before .before .before .before .before .before .before .before .before .before .args in
     Level (a .t3) (a .s .now) (a .depth) × (a .v ≤ a .t3 .pins) × (1 ≤ c .root-place .result) × (c .root-place .result ≤ a .pins) × (a .start + a .pins ≤ a .t3 .pins)
 bounds t c =
-    let p = c .before .before .before .before .before .before .before .before .before .pre .1 in
+    let p = c .before .before .before .before .before .before .before .before .before .before .before .pre .1 in
     let node = stands-node (p .1 .0) (omega arith) in
     let place = rw (← (c .root-place .ensures)) at (stands-place (p .1 .0) node) in
     (stands-level (p .1 .0) (p .0 .0) node, node, place .0, place .1, p .1 .0 .inside)
@@ -56,19 +57,22 @@ returns t c =
     let a = c .before .before .before .args in
     rw (c .if1 .taken) (refl, sym (replaced-none (a .times .now) (a .start)))
 
+slice-aggregate-open-full : (t : ℕ) → lts.Need-slice-aggregate-open-full (calls t) (given t) reads.Post
+slice-aggregate-open-full t c = search needs
+
 open-full-requires : (t : ℕ) → lts.Need-open-full-requires (calls t) (given t) reads.Post
 open-full-requires t c κs =
-    let p = c .before .before .before .before .before .before .pre .1 in
-    (p .0 .0, (p .1 .0 .low, p .1 .0 .high, stands-node (p .1 .0) (omega arith)))
+    let p = c .before .before .before .before .before .before .before .pre .1 in
+    ((p .0 .0, marks-zero _ _ 0), (p .1 .0 .low, p .1 .0 .high, stands-node (p .1 .0) (omega arith)))
 
 refusal-of-requires : (t : ℕ) → lts.Need-refusal-of-requires (calls t) (given t) reads.Post
 refusal-of-requires t c κs = search needs
 
 returns-2 : (t : ℕ) → lts.Need-returns-2 (calls t) (given t) reads.Post
 returns-2 t c =
-    let a = c .before .before .before .before .before .before .before .before .before .args in
-    let p = c .before .before .before .before .before .before .before .before .before .pre .1 .1 in
-    let e = stands-told (p .0) (c .before .before .open-full .result) (c .before .before .open-full .ensures) ∙ sym (c .refusal-of .ensures) in
+    let a = c .before .before .before .before .before .before .before .before .before .before .before .args in
+    let p = c .before .before .before .before .before .before .before .before .before .before .before .pre .1 .1 in
+    let e = stands-told (p .0) (c .before .before .before .open-full .result) (c .before .before .before .open-full .ensures .0) ∙ sym (c .refusal-of .ensures) in
     let z = listed-refused (p .0) (p .1) (omega arith) _ _ e in
     (sym (z .0), sym (rw (z .1) (replaced-none (a .times .now) (a .start))))
 
@@ -89,9 +93,9 @@ add-list-under t c = omega (arith, bounds t (c .before))
 
 list-under-requires : (t : ℕ) → lts.Need-list-under-requires (calls t) (given t) reads.Post
 list-under-requires t c κs =
-    let p = c .before .before .before .before .before .before .before .before .before .before .pre .1 in
+    let p = c .before .before .before .before .before .before .before .before .before .before .before .before .pre .1 in
     let e = time-is t (c .before .before) in
-    (omega (arith, bounds t (c .before), c .before .before .before .before .before .before .before .before .before .before .pre .0), (p .0, stands-left (p .1 .0) (p .1 .1) (omega arith) _ e _ (c .before .root-place .ensures)))
+    (omega (arith, bounds t (c .before), c .before .before .before .before .before .before .before .before .before .before .before .before .pre .0), (p .0, stands-left (p .1 .0) (p .1 .1) (omega arith) _ e _ (c .before .root-place .ensures)))
 
 enum-told : (t : ℕ) → lts.Need-enum-told (calls t) (given t) reads.Post
 enum-told t c = search needs
@@ -104,9 +108,9 @@ same-length t c = c .before .before .before .before .before .list-under .kept .0
 
 returns-3 : (t : ℕ) → lts.Need-returns-3 (calls t) (given t) reads.Post
 returns-3 t c =
-    let p = c .before .before .before .before .before .before .before .before .before .before .before .before .before .before .before .before .pre .1 in
+    let p = c .before .before .before .before .before .before .before .before .before .before .before .before .before .before .before .before .before .before .pre .1 in
     let e = time-is t (c .before .before .before .before .before .before .before .before) in
-    listed-left (p .1 .0) (p .1 .1) (omega arith) _ e _ (c .before .before .before .before .before .before .before .root-place .ensures) (c .before .before .before .before .before .before .before .before .before .before .before .before .before .before .before .before .args .times .now) (c .before .before .before .before .before .list-under .last .0) (c .before .before .before .before .before .list-under .ensures .1)
+    listed-left (p .1 .0) (p .1 .1) (omega arith) _ e _ (c .before .before .before .before .before .before .before .root-place .ensures) (c .before .before .before .before .before .before .before .before .before .before .before .before .before .before .before .before .before .before .args .times .now) (c .before .before .before .before .before .list-under .last .0) (c .before .before .before .before .before .list-under .ensures .1)
     _ _ _ _ (ap listed (c .before .left .given .1)) (c .before .before .before .before .before .list-under .ensures .0)
 
 add-at : (t : ℕ) → lts.Need-add-at (calls t) (given t) reads.Post
@@ -119,7 +123,7 @@ mul-times : (t : ℕ) → lts.Need-mul-times (calls t) (given t) reads.Post
 mul-times t c = omega (arith, bounds t (c .before .before .before .before .before .before))
 
 slice-write-times : (t : ℕ) → lts.Need-slice-write-times (calls t) (given t) reads.Post
-slice-write-times t c = omega (arith, bounds t (c .before .before .before .before .before .before), c .before .before .before .before .before .before .before .before .before .before .before .before .before .before .before .pre .1 .0 .1, c .before .before .before .before .list-under .kept .0)
+slice-write-times t c = omega (arith, bounds t (c .before .before .before .before .before .before), c .before .before .before .before .before .before .before .before .before .before .before .before .before .before .before .before .before .pre .1 .0 .1, c .before .before .before .before .list-under .kept .0)
 
 add-list-under-2 : (t : ℕ) → lts.Need-add-list-under-2 (calls t) (given t) reads.Post
 add-list-under-2 t c = omega (arith, bounds t (c .before .before .before .before .before .before .before))
@@ -138,21 +142,21 @@ add-list-under-4 t c = omega (arith, bounds t (c .before .before .before .before
 
 list-under-requires-2 : (t : ℕ) → lts.Need-list-under-requires-2 (calls t) (given t) reads.Post
 list-under-requires-2 t c κs =
-    let a = c .before .before .before .before .before .before .before .before .before .before .before .before .before .before .before .before .args in
-    let p = c .before .before .before .before .before .before .before .before .before .before .before .before .before .before .before .before .pre .1 in
+    let a = c .before .before .before .before .before .before .before .before .before .before .before .before .before .before .before .before .before .before .args in
+    let p = c .before .before .before .before .before .before .before .before .before .before .before .before .before .before .before .before .before .before .pre .1 in
     let e = time-is t (c .before .before .before .before .before .before .before .before) in
-    let room : a .t3 .pins ≤ length (set (c .before .before .before .before .before .list-under .last .0) (a .start + c .before .before .before .before .before .before .before .root-place .result - 1) (c .before .before .before .before .before .before .before .before .before .open-full .result)) =
-    omega (arith, length-set (c .before .before .before .before .before .list-under .last .0) (a .start + c .before .before .before .before .before .before .before .root-place .result - 1) (c .before .before .before .before .before .before .before .before .before .open-full .result), c .before .before .before .before .before .list-under .kept .0, p .0 .1) in
-    (omega (arith, bounds t (c .before .before .before .before .before .before .before), c .before .before .before .before .before .before .before .before .before .before .before .before .before .before .before .before .pre .0), ((p .0 .0, room), stands-right (p .1 .0) (p .1 .1) (omega arith) _ e _ (c .before .before .before .before .before .before .before .root-place .ensures)))
+    let room : a .t3 .pins ≤ length (set (c .before .before .before .before .before .list-under .last .0) (a .start + c .before .before .before .before .before .before .before .root-place .result - 1) (c .before .before .before .before .before .before .before .before .before .before .open-full .result)) =
+    omega (arith, length-set (c .before .before .before .before .before .list-under .last .0) (a .start + c .before .before .before .before .before .before .before .root-place .result - 1) (c .before .before .before .before .before .before .before .before .before .before .open-full .result), c .before .before .before .before .before .list-under .kept .0, p .0 .1) in
+    (omega (arith, bounds t (c .before .before .before .before .before .before .before), c .before .before .before .before .before .before .before .before .before .before .before .before .before .before .before .before .before .before .pre .0), ((p .0 .0, room), stands-right (p .1 .0) (p .1 .1) (omega arith) _ e _ (c .before .before .before .before .before .before .before .root-place .ensures)))
 
 same-length-2 : (t : ℕ) → lts.Need-same-length-2 (calls t) (given t) reads.Post
-same-length-2 t c = c .before .before .list-under2 .kept .0 ∙ length-set (c .before .before .before .before .before .before .before .before .list-under .last .0) (c .before .before .before .before .before .before .before .before .before .before .before .before .before .before .before .before .before .before .before .args .start + c .before .before .before .before .before .before .before .before .before .before .root-place .result - 1) (c .before .before .before .before .before .before .before .before .before .before .before .before .open-full .result) ∙ c .before .before .before .before .before .before .before .before .list-under .kept .0
+same-length-2 t c = c .before .before .list-under2 .kept .0 ∙ length-set (c .before .before .before .before .before .before .before .before .list-under .last .0) (c .before .before .before .before .before .before .before .before .before .before .before .before .before .before .before .before .before .before .before .before .before .args .start + c .before .before .before .before .before .before .before .before .before .before .root-place .result - 1) (c .before .before .before .before .before .before .before .before .before .before .before .before .before .open-full .result) ∙ c .before .before .before .before .before .before .before .before .list-under .kept .0
 
 returns-4 : (t : ℕ) → lts.Need-returns-4 (calls t) (given t) reads.Post
 returns-4 t c =
-    let p = c .before .before .before .before .before .before .before .before .before .before .before .before .before .before .before .before .before .before .before .pre .1 in
+    let p = c .before .before .before .before .before .before .before .before .before .before .before .before .before .before .before .before .before .before .before .before .before .pre .1 in
     let e = time-is t (c .before .before .before .before .before .before .before .before .before .before .before) in
-    listed-right (p .1 .0) (p .1 .1) (omega arith) _ e _ (c .before .before .before .before .before .before .before .before .before .before .root-place .ensures) (c .before .before .before .before .before .before .before .before .before .before .before .before .before .before .before .before .before .before .before .args .times .now) (c .before .before .before .before .before .before .before .before .list-under .last .0) (c .before .before .before .before .before .before .before .before .list-under .ensures .1)
+    listed-right (p .1 .0) (p .1 .1) (omega arith) _ e _ (c .before .before .before .before .before .before .before .before .before .before .root-place .ensures) (c .before .before .before .before .before .before .before .before .before .before .before .before .before .before .before .before .before .before .before .before .before .args .times .now) (c .before .before .before .before .before .before .before .before .list-under .last .0) (c .before .before .before .before .before .before .before .before .list-under .ensures .1)
     (ap listed (c .before .before .before .before .enum-told .given .1)) (c .before .before .before .before .before .before .before .before .list-under .ensures .0) (omega (arith, p .1 .0 .inside, p .0 .1))
     (listed (c .before .before .list-under2 .result)) (c .before .before .list-under2 .last .0) (c .before .before .list-under2 .ensures .0) (c .before .before .list-under2 .ensures .1)
 
@@ -161,6 +165,7 @@ pub +list-under-spec : {M : Type 1} → statement M
     (given t)
     reads.Post
     (returns t)
+    (slice-aggregate-open-full t)
     (open-full-requires t)
     (refusal-of-requires t)
     (returns-2 t)

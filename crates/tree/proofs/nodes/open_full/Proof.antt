@@ -1,93 +1,156 @@
--- The fetch, counted from the first node of the level, is the node's, and `time_under` has the time by what it finds.
+-- The fetch, counted from the first node of the level, is the node's, and `time_under` has the time by what it finds. The level's marks
+-- are renewed, the others' as they were.
 use native.Mathlib.Omega.{arith}
 use mathlib.Core.Path.{_≡_, sym, ap, _∙_}
-use lib.ListN.{length-take}
+use mathlib.Core.List.{List}
+use Prim.Native.Nat.{ℕ, _+_, _-_, _*_, _/_, _≤_}
+use lib.ListN.{length}
+use borrow.Rule.Slice.PartMut.{putMid, same-len-mid}
 use Rattle.codes.specs.Fetch.{found}
+use Rattle.tree.specs.declared.nodes.Levels.{Levels}
 use Rattle.tree.specs.Levels.{levelsOf, fetchedAt}
+use Rattle.tree.specs.LevelMarks.{LevelMarks}
 use Rattle.tree.specs.Times.{at, under}
-use Rattle.tree.proofs.NodeFetches.{fetched-from, Level, level-fits}
+use Rattle.tree.proofs.LevelMarks.{marks-room, marks-lent, marks-back}
+use Rattle.tree.proofs.NodeFetches.{fetched-from, Level, level-fits, index-below, part-short}
 use borrow.Author.Needs.{needs}
 use Rattle.tree.proofs.nodes.open_full.Statement.{statement}
 use Rattle.tree.proofs.nodes.open_full.Tie as tie
 
+abbrev levels : tie.Start → Levels
+levels c = levelsOf (c .args .n) (c .args .codes .now) (c .args .ends .now)
+
 -- the node's level lies in the bytes
-level : (c : tie.Start) → Level (levelsOf (c .args .n) (c .args .codes .now) (c .args .ends .now)) (c .args .s .now) (c .args .depth)
-level c = level-fits (c .pre .0) (c .pre .1 .0) (c .pre .1 .2)
+level : (c : tie.Start) → Level (levels c) (c .args .s .now) (c .args .depth)
+level c = level-fits (c .pre .0 .0) (c .pre .1 .0) (c .pre .1 .2)
+
+-- and its marks among all
+room : (c : tie.Start) → let n = length (c .args .marks .now) in c .args .depth * (n / 16) + n / 16 ≤ n
+room c = marks-room (c .args .depth) (length (c .args .marks .now)) (level c .deep)
+
+abbrev start : tie.After-fetch → tie.Start
+start c = c .before .before .before .before .before .before .before .before .before .before
 
 -- the fetch is the node's
-node-fetch : (c : tie.After-fetch) → let a = c .before .before .before .before .before .before .before .before .args in
-    fetchedAt (levelsOf (a .n) (a .codes .now) (a .ends .now)) (a .s .now) (a .v) ≡ found (c .fetch .result)
+node-fetch : (c : tie.After-fetch) → let s = start c in fetchedAt (levels s) (s .args .s .now) (s .args .v) ≡ found (c .fetch .result)
 node-fetch c =
-    let a = c .before .before .before .before .before .before .before .before .args in
-    let p = c .before .before .before .before .before .before .before .before .pre .1 in
-    fetched-from (levelsOf (a .n) (a .codes .now) (a .ends .now)) (a .s .now) (a .depth) (a .v) _ (c .before .before .before .power-of-two .ensures) (p .0) (p .1)
-    ∙ sym (rw (c .before .before .least .ensures) at (c .fetch .ensures))
+    let s = start c in
+    let p = s .pre .1 in
+    fetched-from (levels s) (s .args .s .now) (s .args .depth) (s .args .v) _ (c .before .before .before .before .power-of-two .ensures) (p .0) (p .1)
+    ∙ sym (rw (c .before .before .before .least .ensures) at (c .fetch .ensures .0))
 
 mul-start : tie.Need-mul-start
-mul-start c = omega (arith, level (c .before))
+mul-start c = omega (arith, level (c .before .before))
 
 element-copy-out-start : tie.Need-element-copy-out-start
-element-copy-out-start c = omega (arith, level (c .before))
+element-copy-out-start c = omega (arith, level (c .before .before))
 
 add-end : tie.Need-add-end
-add-end c = omega (arith, level (c .before .before))
+add-end c = omega (arith, level (c .before .before .before))
 
 mul-end : tie.Need-mul-end
-mul-end c = omega (arith, level (c .before .before))
+mul-end c = omega (arith, level (c .before .before .before))
 
 element-copy-out-end : tie.Need-element-copy-out-end
-element-copy-out-end c = omega (arith, level (c .before .before))
+element-copy-out-end c = omega (arith, level (c .before .before .before))
 
 element-copy-out-code : tie.Need-element-copy-out-code
-element-copy-out-code c = omega (arith, level (c .before .before .before))
+element-copy-out-code c = omega (arith, level (c .before .before .before .before))
 
 power-of-two-requires : tie.Need-power-of-two-requires
-power-of-two-requires c κs = omega (arith, level (c .before .before .before .before))
+power-of-two-requires c κs = omega (arith, level (c .before .before .before .before .before))
 
 add-least : tie.Need-add-least
-add-least c = omega (arith, level (c .before .before .before .before .before))
+add-least c = omega (arith, level (c .before .before .before .before .before .before))
 
 sub-least : tie.Need-sub-least
-sub-least c = search needs
+sub-least c = omega arith
 
 least-requires : tie.Need-least-requires
-least-requires c κs = search needs
+least-requires c κs = tt
+
+mul-from : tie.Need-mul-from
+mul-from c = omega (arith, room (c .before .before .before .before .before .before .before))
+
+add-to : tie.Need-add-to
+add-to c = omega (arith, room (c .before .before .before .before .before .before .before))
+
+mul-fetch : tie.Need-mul-fetch
+mul-fetch c = omega (arith, room (c .before .before .before .before .before .before .before))
 
 sub-fetch : tie.Need-sub-fetch
-sub-fetch c = omega (arith, level (c .before .before .before .before .before .before))
+sub-fetch c = omega arith
 
 part-fetch-start : tie.Need-part-fetch-start
-part-fetch-start c = omega (arith, level (c .before .before .before .before .before .before))
+part-fetch-start c = omega arith
 
 part-fetch-end : tie.Need-part-fetch-end
-part-fetch-end c = omega (arith, level (c .before .before .before .before .before .before))
+part-fetch-end c = omega (arith, room (c .before .before .before .before .before .before .before))
 
 sub-fetch-2 : tie.Need-sub-fetch-2
-sub-fetch-2 c = search needs
+sub-fetch-2 c = omega (arith, level (c .before .before .before .before .before .before .before .before))
+
+part-fetch-start-2 : tie.Need-part-fetch-start-2
+part-fetch-start-2 c = omega (arith, level (c .before .before .before .before .before .before .before .before))
+
+part-fetch-end-2 : tie.Need-part-fetch-end-2
+part-fetch-end-2 c = omega (arith, level (c .before .before .before .before .before .before .before .before))
+
+sub-fetch-3 : tie.Need-sub-fetch-3
+sub-fetch-3 c = omega arith
 
 fetch-requires : tie.Need-fetch-requires
 fetch-requires c κs =
-    let l = level (c .before .before .before .before .before .before .before) in
-    (search needs, simp length-take (omega arith))
+    let s = c .before .before .before .before .before .before .before .before .before in
+    let a = s .args in
+    let p = s .pre .1 in (
+      index-below (a .n) (a .depth) (a .v) _ _ (c .before .before .before .power-of-two .ensures) (p .0) (p .1) (p .2) (c .before .before .least .ensures),
+      part-short (level s),
+      marks-lent (s .pre .0 .1) (a .depth) (level s .deep),
+    )
+
+-- the marks after it are as many, and true
+abbrev after : tie.After-fetch → List ℕ
+after c =
+    let a = start c .args in
+    let k = length (a .marks .now) / 16 in
+    putMid (a .depth * k) (a .depth * k + k - a .depth * k) (a .marks .now) (c .fetch .last .0)
+
+as-many : (c : tie.After-fetch) → length (after c) ≡ length (start c .args .marks .now)
+as-many c =
+    let a = start c .args in
+    let k = length (a .marks .now) / 16 in
+    same-len-mid (a .depth * k) (a .depth * k + k - a .depth * k) (a .marks .now) (c .fetch .last .0) (c .fetch .kept .0)
+
+marks-after : (c : tie.After-fetch) → LevelMarks (start c .args .ends .now) (start c .args .s .now) (after c)
+marks-after c = let s = start c in marks-back (s .pre .0 .1) (s .args .depth) (level s .deep) (c .fetch .last .0) (c .fetch .kept .0) (c .fetch .ensures .1)
 
 enum-known-found : tie.Need-enum-known-found
 enum-known-found c = search needs
 
 time-under-requires : tie.Need-time-under-requires
-time-under-requires c κs = search needs
+time-under-requires c κs = tt
 
 enum-told : tie.Need-enum-told
 enum-told c = search needs
 
+same-length : tie.Need-same-length
+same-length c = as-many (c .before .before .before .before .before .before)
+
 returns : tie.Need-returns
 returns c =
-    let a = c .before .before .before .before .before .before .before .before .before .before .before .before .args in
-    c .time-under .ensures ∙ ap (under (a .v) (at (a .above))) (sym (node-fetch (c .before .before .before .before) ∙ ap found (c .before .before .found .given .1)))
+    let f = c .before .before .before .before .before .before in
+    let a = start f .args in
+    (c .time-under .ensures ∙ ap (under (a .v) (at (a .above))) (sym (node-fetch f ∙ ap found (c .before .before .found .given .1))), marks-after f)
+
+same-length-2 : tie.Need-same-length-2
+same-length-2 c = as-many (c .before .before .before .before)
 
 returns-2 : tie.Need-returns-2
 returns-2 c =
-    let a = c .before .before .before .before .before .before .before .before .before .before .args in
-    ap (under (a .v) (at (a .above))) (sym (node-fetch (c .before .before) ∙ ap found (c .enum-told .given .1)))
+    let f = c .before .before .before .before in
+    let a = start f .args in
+    (ap (under (a .v) (at (a .above))) (sym (node-fetch f ∙ ap found (c .enum-told .given .1))), marks-after f)
 
 pub open-full-spec : {M : Type 1} → statement M
 open-full-spec =
@@ -103,13 +166,21 @@ open-full-spec =
     add-least
     sub-least
     least-requires
+    mul-from
+    add-to
+    mul-fetch
     sub-fetch
     part-fetch-start
     part-fetch-end
     sub-fetch-2
+    part-fetch-start-2
+    part-fetch-end-2
+    sub-fetch-3
     fetch-requires
     enum-known-found
     time-under-requires
     enum-told
+    same-length
     returns
+    same-length-2
     returns-2)

@@ -13,44 +13,44 @@ use Rattle.tree.proofs.nodes.open_node.Tie as tie
 
 -- the node's level lies in the bytes
 level : (c : tie.Start) → Level (levelsOf (c .args .n) (c .args .codes .now) (c .args .ends .now)) (c .args .s .now) (c .args .depth)
-level c = level-fits (c .pre .0) (c .pre .1 .0) (c .pre .1 .2)
+level c = level-fits (c .pre .0 .0) (c .pre .1 .0) (c .pre .1 .2)
 
 mul-start : tie.Need-mul-start
-mul-start c = omega (arith, level (c .before))
+mul-start c = omega (arith, level (c .before .before))
 
 element-copy-out-start : tie.Need-element-copy-out-start
-element-copy-out-start c = omega (arith, level (c .before))
+element-copy-out-start c = omega (arith, level (c .before .before))
 
 add-end : tie.Need-add-end
-add-end c = omega (arith, level (c .before .before))
+add-end c = omega (arith, level (c .before .before .before))
 
 mul-end : tie.Need-mul-end
-mul-end c = omega (arith, level (c .before .before))
+mul-end c = omega (arith, level (c .before .before .before))
 
 element-copy-out-end : tie.Need-element-copy-out-end
-element-copy-out-end c = omega (arith, level (c .before .before))
+element-copy-out-end c = omega (arith, level (c .before .before .before))
 
 element-copy-out-code : tie.Need-element-copy-out-code
-element-copy-out-code c = omega (arith, level (c .before .before .before))
+element-copy-out-code c = omega (arith, level (c .before .before .before .before))
 
 sub-fetch-short : tie.Need-sub-fetch-short
-sub-fetch-short c = omega (arith, level (c .before .before .before .before))
+sub-fetch-short c = omega (arith, level (c .before .before .before .before .before))
 
 part-fetch-short-start : tie.Need-part-fetch-short-start
-part-fetch-short-start c = omega (arith, level (c .before .before .before .before))
+part-fetch-short-start c = omega (arith, level (c .before .before .before .before .before))
 
 part-fetch-short-end : tie.Need-part-fetch-short-end
-part-fetch-short-end c = omega (arith, level (c .before .before .before .before))
+part-fetch-short-end c = omega (arith, level (c .before .before .before .before .before))
 
 power-of-two-requires : tie.Need-power-of-two-requires
-power-of-two-requires c κs = omega (arith, level (c .before .before .before .before .before))
+power-of-two-requires c κs = omega (arith, level (c .before .before .before .before .before .before))
 
 sub-fetch-short-2 : tie.Need-sub-fetch-short-2
 sub-fetch-short-2 c = search needs
 
 fetch-short-requires : tie.Need-fetch-short-requires
 fetch-short-requires c κs =
-    let l = level (c .before .before .before .before .before .before) in
+    let l = level (c .before .before .before .before .before .before .before) in
     (omega arith, simp length-take (omega arith))
 
 cast-time-under : tie.Need-cast-time-under
@@ -61,16 +61,18 @@ time-under-requires c κs = search needs
 
 returns : tie.Need-returns
 returns c =
-    let a = c .before .before .before .before .before .before .before .before .before .args in
-    let p = c .before .before .before .before .before .before .before .before .before .pre .1 in
+    let s = c .before .before .before .before .before .before .before .before .before .before in
+    let a = s .args in
+    let p = s .pre .1 in
     let short = c .before .before .fetch-short .ensures in
-    c .time-under .ensures
-    ∙ ap (under (a .v) (at (a .above)))
-    (ap value short ∙ sym (short-fetches _ _ _ _ (rw (← short) (c .before .if1 .taken)))
-    ∙ sym (fetched-from (levelsOf (a .n) (a .codes .now) (a .ends .now)) (a .s .now) (a .depth) (a .v) _ (c .before .before .before .power-of-two .ensures) (p .0) (p .1)))
+    let node = fetched-from (levelsOf (a .n) (a .codes .now) (a .ends .now)) (a .s .now) (a .depth) (a .v) _ (c .before .before .before .power-of-two .ensures) (p .0) (p .1) in
+    (c .time-under .ensures ∙ ap (under (a .v) (at (a .above))) (ap value short ∙ sym (short-fetches _ _ _ _ (rw (← short) (c .before .if1 .taken))) ∙ sym node), s .pre .0 .1)
 
 open-full-requires : tie.Need-open-full-requires
 open-full-requires c κs = search needs
+
+same-length : tie.Need-same-length
+same-length c = search needs
 
 returns-2 : tie.Need-returns-2
 returns-2 c = search needs
@@ -95,4 +97,5 @@ open-node-spec =
     time-under-requires
     returns
     open-full-requires
+    same-length
     returns-2)

@@ -12,6 +12,7 @@ use Rattle.tree.specs.Times.{at, timeTold, known, timesIn}
 use Rattle.tree.specs.Walks.{Answer, found, met, accessAnswer}
 use Rattle.tree.proofs.Heights.{height-bound, height-mono, first-digits}
 use Rattle.tree.proofs.NodeTimes.{time-above, time-step, told-time}
+use Rattle.tree.proofs.LevelMarks.{marks-zero}
 use Rattle.tree.proofs.NodeFetches.{Level, level-fits, pins-bound}
 use Rattle.tree.proofs.Walks.{met-fine, met-refused}
 use Rattle.tree.proofs.Paths.{downTo, downTo-on, access-down}
@@ -67,17 +68,17 @@ level : (c : tie.In-loop Inv-loop μ-loop) → let a = c .before .before .before
 level c = level-fits (c .before .before .before .before .before .pre .0) (on-way c .0) (on-way c .2)
 
 -- its time is what is told of it
-time-told : (c : tie.After-open-node Inv-loop μ-loop) → let a = c .before .before .before .before .before .before .before .before .before .args in timesIn (a .t2) (a .s .now) (node (c .before .before .before .before)) ≡ timeTold (node (c .before .before .before .before)) (c .open-node .result)
+time-told : (c : tie.After-open-node Inv-loop μ-loop) → let a = c .before .before .before .before .before .before .before .before .before .before .args in timesIn (a .t2) (a .s .now) (node (c .before .before .before .before .before)) ≡ timeTold (node (c .before .before .before .before .before)) (c .open-node .result)
 time-told c =
-    let a = c .before .before .before .before .before .before .before .before .before .args in
-    let l = c .before .before .before .before .before .loop in
-    let i = c .before .before .before .before in
+    let a = c .before .before .before .before .before .before .before .before .before .before .args in
+    let l = c .before .before .before .before .before .before .loop in
+    let i = c .before .before .before .before .before in
     let e : l .below - 1 + 1 ≡ l .below = omega arith in
     let half : node i / 2 ≡ goal i / 2 ^ l .below = shr-shr (goal i) (l .below - 1) 1 ∙ rw e in
-    time-step (fetchedAt (a .t2) (a .s .now)) (node i) (omega (arith, on-way i, pow-pos (l .depth))) ∙ rw (half, l .inv .2, c .open-node .ensures)
+    time-step (fetchedAt (a .t2) (a .s .now)) (node i) (omega (arith, on-way i, pow-pos (l .depth))) ∙ rw (half, l .inv .2, c .open-node .ensures .0)
 
-time-is : (c : tie.Else1 Inv-loop μ-loop) → let a = c .before .before .before .before .before .before .before .before .before .before .args in timesIn (a .t2) (a .s .now) (node (c .before .before .before .before .before)) ≡ at (c .before .open-node .result)
-time-is c = time-told (c .before) ∙ told-time (node (c .before .before .before .before .before)) (c .before .open-node .result) (omega arith)
+time-is : (c : tie.Else1 Inv-loop μ-loop) → let a = c .before .before .before .before .before .before .before .before .before .before .before .before .args in timesIn (a .t2) (a .s .now) (node (c .before .before .before .before .before .before .before)) ≡ at (c .before .before .open-node .result)
+time-is c = time-told (c .before .before) ∙ told-time (node (c .before .before .before .before .before .before .before)) (c .before .before .open-node .result) (omega arith)
 
 -- what is left of the answer
 abbrev answer : tie.In-loop Inv-loop μ-loop → Answer
@@ -98,33 +99,36 @@ shr-v c = omega (arith, c .before .loop .inv .0, height-mono (goal c) (c .before
 add-nodes : tie.Need-add-nodes Inv-loop μ-loop
 add-nodes c = omega (arith, level c)
 
+slice-aggregate-open-node : tie.Need-slice-aggregate-open-node Inv-loop μ-loop
+slice-aggregate-open-node c = search needs
+
 open-node-requires : tie.Need-open-node-requires Inv-loop μ-loop
-open-node-requires c κs = (c .before .before .before .before .before .before .before .before .pre .0, on-way (c .before .before .before))
+open-node-requires c κs = ((c .before .before .before .before .before .before .before .before .before .pre .0, marks-zero _ _ 0), on-way (c .before .before .before .before))
 
 refusal-of-requires : tie.Need-refusal-of-requires Inv-loop μ-loop
 refusal-of-requires c κs = search needs
 
 returns : tie.Need-returns Inv-loop μ-loop
 returns c =
-    let i = c .before .before .before .before .before .before in
-    let a = c .before .before .before .before .before .before .before .before .before .before .before .args in
-    let e = time-told (c .before .before) ∙ sym (c .refusal-of .ensures) in
+    let i = c .before .before .before .before .before .before .before .before in
+    let a = c .before .before .before .before .before .before .before .before .before .before .before .before .before .args in
+    let e = time-told (c .before .before .before) ∙ sym (c .refusal-of .ensures) in
     sym (met-refused (timesIn (a .t2) (a .s .now)) (answer i) (node i) _ _ _ e) ∙ on i
 
 cast-time : tie.Need-cast-time Inv-loop μ-loop
 cast-time c = search needs
 
 add-depth : tie.Need-add-depth Inv-loop μ-loop
-add-depth c = omega (arith, level (c .before .before .before .before .before))
+add-depth c = omega (arith, level (c .before .before .before .before .before .before .before))
 
 loop-less : tie.Need-loop-less Inv-loop μ-loop
 loop-less c = omega arith
 
 loop-again : tie.Need-loop-again Inv-loop μ-loop
 loop-again c =
-    let i = c .before .before .before .before .before in
-    let a = c .before .before .before .before .before .before .before .before .before .before .args in (
-      omega (arith, c .before .before .before .before .before .before .loop .inv .0),
+    let i = c .before .before .before .before .before .before .before in
+    let a = c .before .before .before .before .before .before .before .before .before .before .before .before .args in (
+      omega (arith, c .before .before .before .before .before .before .before .before .loop .inv .0),
       omega arith,
       time-is c,
       sym (met-fine (timesIn (a .t2) (a .s .now)) (answer i) (node i) _ _ (time-is c)) ∙ on i,
@@ -153,6 +157,7 @@ access-spec =
     sub-below
     shr-v
     add-nodes
+    slice-aggregate-open-node
     open-node-requires
     refusal-of-requires
     returns
