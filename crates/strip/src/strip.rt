@@ -145,6 +145,13 @@ impl Strip {
     // The most pins of a list that is short: it is worked on in arrays of this length.
     pub(crate) const SHORT_PINS: usize = 1023;
 
+    // A sweep of so many targets or more has marks.
+    pub(crate) const MARKED_TARGETS: usize = 64;
+
+    // The entries of its marks: for each of 16 levels and 32 layers two marks, of three entries each. A value has more layers only by chunks
+    // of zeros on top.
+    pub(crate) const MARK_ENTRIES: usize = 3072;
+
     // The height of n pins.
     pub fn height(n: usize) -> usize
         ensures { λ r. ⌜ r ≡ height n ⌝ }

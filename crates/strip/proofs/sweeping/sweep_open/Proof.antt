@@ -1,11 +1,16 @@
--- `sweep_open` meets its contract.
+-- 15 and 16 are told first; then the tree sweeps, with marks or without.
 use native.Mathlib.Omega.{arith}
-use mathlib.Core.Path.{refl, sym, ap, _∙_}
+use mathlib.Core.Path.{_≡_, refl, ap, _∙_}
+use mathlib.Core.List.{List}
+use Prim.Native.Nat.{ℕ}
 use lib.ListN.{length}
-use Rattle.tree.specs.Times.{timesIn}
-use Rattle.tree.specs.Walks.{stopped}
-use Rattle.tree.specs.Sweeps.{sweep, swept}
+use Rattle.codes.specs.Lists.{atFront}
+use Rattle.tree.specs.Walks.{Answer, stopped}
+use Rattle.tree.specs.Buffers.{replaced}
+use Rattle.tree.specs.Sweeps.{sweepAll}
+use Rattle.tree.proofs.Promises.{zero-marks}
 use Rattle.tree.proofs.Buffers.{replaced-front}
+use Rattle.strip.specs.Calls.{sweepIn}
 use Rattle.strip.proofs.Gaps.{not-ordered, is-ordered}
 use Rattle.strip.proofs.Sweeps.{lengths-differ, targets-fall, targets-follow}
 use borrow.Author.Needs.{needs}
@@ -25,35 +30,49 @@ returns-2 c =
     let a = c .before .before .before .before .before .before .args in
     rw (targets-fall (a .s .now) (a .targets .now) (length (a .answers .now)) (a .levels) (omega arith) (not-ordered (a .targets .now) (omega arith))) (ap (stopped 16) (c .before .first-lower .ensures), refl)
 
+-- where targets follow each other, with an answer for each, what the tree's sweep answers and writes is the call's
+follows : (c : tie.Else2) {o p : Answer} {after : List ℕ} → let a = c .before .before .before .before .before .before .args in let all = sweepAll (a .levels) (a .s .now) (a .targets .now) in
+    o ≡ p → p ≡ all .answer → after ≡ replaced (a .answers .now) 0 (all .positions)
+    → let call = sweepIn (a .s .now) (a .targets .now) (length (a .answers .now)) (a .levels) in
+    (o ≡ call .answer) × (after ≡ atFront (call .positions) (a .answers .now))
+follows c o p e =
+    let a = c .before .before .before .before .before .before .args in
+    rw (targets-follow (a .s .now) (a .targets .now) (length (a .answers .now)) (a .levels) (omega arith) (is-ordered (a .targets .now) (omega arith)))
+    (o ∙ p, e ∙ replaced-front (a .answers .now) (sweepAll (a .levels) (a .s .now) (a .targets .now) .positions))
+
+slice-aggregate-sweep : tie.Need-slice-aggregate-sweep
+slice-aggregate-sweep c = search needs
+
 sweep-requires : tie.Need-sweep-requires
-sweep-requires c κs = search needs
+sweep-requires c κs = let s = c .before .before .before .before .before .before .before .before .before in (s .pre, zero-marks (s .args .levels .ends) (s .args .s .now) 0, omega arith)
 
-enum-known-swept : tie.Need-enum-known-swept
-enum-known-swept c = search needs
-
-enum-known-swept-2 : tie.Need-enum-known-swept-2
-enum-known-swept-2 c = search needs
-
-of-walk-requires : tie.Need-of-walk-requires
-of-walk-requires c κs = search needs
+swept-of-requires : tie.Need-swept-of-requires
+swept-of-requires c κs = search needs
 
 same-length : tie.Need-same-length
 same-length c = search needs
 
 returns-3 : tie.Need-returns-3
 returns-3 c =
-    let a = c .before .before .before .before .before .before .before .before .before .before .before .before .before .args in
-    rw (targets-follow (a .s .now) (a .targets .now) (length (a .answers .now)) (a .levels) (omega arith) (is-ordered (a .targets .now) (omega arith)))
-    (sym (ap swept (c .before .swept .given .1)) ∙ c .before .before .before .before .before .sweep .ensures .0, c .before .before .before .before .before .sweep .ensures .1 ∙ replaced-front (a .answers .now) (sweep (a .levels .pins) (timesIn (a .levels) (a .s .now)) (a .targets .now) .positions))
+    let e = c .before .before .before .before .sweep .ensures in
+    follows (c .before .before .before .before .before .before .before .before) (c .swept-of .ensures) (e .0) (e .1 .0)
+
+slice-aggregate-sweep-2 : tie.Need-slice-aggregate-sweep-2
+slice-aggregate-sweep-2 c = search needs
+
+sweep-requires-2 : tie.Need-sweep-requires-2
+sweep-requires-2 c κs = let s = c .before .before .before .before .before .before .before .before .before in (s .pre, zero-marks (s .args .levels .ends) (s .args .s .now) 3072, omega arith)
+
+swept-of-requires-2 : tie.Need-swept-of-requires-2
+swept-of-requires-2 c κs = search needs
 
 same-length-2 : tie.Need-same-length-2
 same-length-2 c = search needs
 
 returns-4 : tie.Need-returns-4
 returns-4 c =
-    let a = c .before .before .before .before .before .before .before .before .before .before .before .before .before .before .args in
-    rw (targets-follow (a .s .now) (a .targets .now) (length (a .answers .now)) (a .levels) (omega arith) (is-ordered (a .targets .now) (omega arith)))
-    (rw (c .of-walk .ensures .0, c .of-walk .ensures .1) (sym (ap swept (c .before .before .swept2 .given .1)) ∙ c .before .before .before .before .before .before .sweep .ensures .0), c .before .before .before .before .before .before .sweep .ensures .1 ∙ replaced-front (a .answers .now) (sweep (a .levels .pins) (timesIn (a .levels) (a .s .now)) (a .targets .now) .positions))
+    let e = c .before .before .before .before .sweep2 .ensures in
+    follows (c .before .before .before .before .before .before .before .before) (c .swept-of2 .ensures) (e .0) (e .1 .0)
 
 pub sweep-open-spec : {M : Type 1} → statement M
 sweep-open-spec =
@@ -62,11 +81,13 @@ sweep-open-spec =
     returns
     first-lower-requires
     returns-2
+    slice-aggregate-sweep
     sweep-requires
-    enum-known-swept
-    enum-known-swept-2
-    of-walk-requires
+    swept-of-requires
     same-length
     returns-3
+    slice-aggregate-sweep-2
+    sweep-requires-2
+    swept-of-requires-2
     same-length-2
     returns-4)
