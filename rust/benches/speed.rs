@@ -9,6 +9,7 @@
 
 use std::env;
 use std::hint::black_box;
+use std::slice::Chunks;
 use std::time::Instant;
 
 use gemcotton::MAX_BYTES;
@@ -27,10 +28,12 @@ const SHORT: usize = 4095;
 const SHORT_REPEATS: usize = PINS / SHORT;
 /// The positions or targets looked up in one work, many lest the processor remember their paths.
 const LOOKUPS: usize = 4096;
-/// The targets of the two sweeps.
+/// The targets of two sweeps. A third index stands for sweeps of as many targets as pins, each
+/// with targets of its own lest the processor remember them, about PINS targets in all.
 const SWEPT: [usize; 2] = [1000, PINS];
+const BY_PINS: usize = SWEPT.len();
 
-/// Seconds for the rounds of one race; there are 86 races.
+/// Seconds for the rounds of one race; there are 89 races.
 const BUDGET: f64 = 1.0;
 const LEAST_ROUNDS: usize = 15;
 const MOST_ROUNDS: usize = 1001;
@@ -111,6 +114,7 @@ impl Call {
             Call::Unpack => "unpack".into(),
             Call::Access => "access".into(),
             Call::Search => "search".into(),
+            Call::Sweep(BY_PINS) => "sweep-pins".into(),
             Call::Sweep(which) => format!("sweep-{}", SWEPT[which]),
             Call::Repeat => "repeat".into(),
         }
@@ -129,7 +133,7 @@ impl Call {
     fn units(self, tune: &Tune) -> usize {
         match self {
             Call::Access | Call::Search => LOOKUPS,
-            Call::Sweep(which) => SWEPT[which],
+            Call::Sweep(which) => tune.swept[which].len(),
             _ => tune.times.len(),
         }
     }
@@ -151,12 +155,10 @@ impl Call {
                 }
             }
             Call::Sweep(which) => {
-                let targets = &tune.swept[which];
-                ignore((calls.sweep)(
-                    strip,
-                    targets,
-                    &mut lent.words[..targets.len()],
-                ));
+                for targets in tune.sweeps(which) {
+                    let answers = &mut lent.words[..targets.len()];
+                    ignore((calls.sweep)(strip, targets, answers));
+                }
             }
             Call::Repeat => ignore((calls.repeat)(strip, 0)),
         }
@@ -233,7 +235,7 @@ struct Tune {
     strip: Vec<u8>,
     positions: Vec<usize>,
     targets: Vec<u32>,
-    swept: [Vec<u32>; SWEPT.len()],
+    swept: [Vec<u32>; BY_PINS + 1],
 }
 
 impl Tune {
@@ -247,7 +249,10 @@ impl Tune {
             strip: packed(&times),
             positions,
             targets: targets(LOOKUPS),
-            swept: SWEPT.map(|count| sorted(targets(count))),
+            swept: [(1, SWEPT[0]), (1, SWEPT[1]), (PINS / n, n)].map(|(sweeps, count)| {
+                let sweep = |_| sorted(targets(count));
+                (0..sweeps).flat_map(sweep).collect()
+            }),
             times,
         };
         IMPLEMENTATIONS.iter().for_each(|calls| tune.verify(calls));
@@ -257,6 +262,15 @@ impl Tune {
     fn with_gaps(n: usize, gaps: &Gaps) -> Self {
         let mut random = Random(1);
         Tune::new(rising(n, || (gaps.draw)(&mut random)))
+    }
+
+    /// The targets of each sweep that stands under this index.
+    fn sweeps(&self, which: usize) -> Chunks<'_, u32> {
+        let targets = &self.swept[which];
+        targets.chunks(match which {
+            BY_PINS => self.times.len(),
+            _ => targets.len(),
+        })
     }
 
     /// The implementation must give the answers of this list and write them and nothing else.
@@ -273,7 +287,7 @@ impl Tune {
         for &t in &self.targets {
             assert_eq!((calls.search)(strip, t), Ok(answers.search(t)));
         }
-        for targets in &self.swept {
+        for targets in (0..=BY_PINS).flat_map(|which| self.sweeps(which)) {
             let (positions, nodes) = answers.sweep(targets);
             let positions: Vec<u32> = positions.into_iter().map(|i| i as u32).collect();
             let sweep = |out: &mut [u32]| (calls.sweep)(strip, targets, out);
@@ -383,9 +397,14 @@ impl Race {
 
     /// Proved and fast, each on the long list and then on the short one.
     fn of_lengths(call: Call, long: &Tune, short: &Tune) -> Self {
+        // Of those sweeps the short list has as many more.
+        let repeats = match call {
+            Call::Sweep(BY_PINS) => 1,
+            _ => SHORT_REPEATS,
+        };
         let both = |which: usize| {
             let calls = &IMPLEMENTATIONS[which];
-            [(1, long), (SHORT_REPEATS, short)]
+            [(1, long), (repeats, short)]
                 .map(|(repeats, tune)| Runner::of(call, repeats, tune, calls))
         };
         let runners: Vec<Runner> = [PROVED, FAST].into_iter().flat_map(both).collect();
@@ -568,8 +587,11 @@ fn main() {
         calls.retain(|call| call.name().contains(&asked));
         calls
     };
-    let calls = only(&CALLS);
-    assert!(!calls.is_empty(), "no call's name has {asked}");
+    let (calls, linear) = (
+        only(&CALLS),
+        only(&[&WHOLE[..], &[Call::Sweep(BY_PINS)]].concat()),
+    );
+    assert!(calls.len() + linear.len() > 0, "no call's name has {asked}");
 
     println!("Nanoseconds are a pin's; for access and search a lookup's; for sweeps a target's.");
     println!(
@@ -582,7 +604,7 @@ fn main() {
             print_calls(&calls, gaps, &Tune::with_gaps(n, gaps), &mut figures);
         }
     }
-    print_linearity(&only(&WHOLE), &mut figures);
+    print_linearity(&linear, &mut figures);
     print_small(&only(&[Call::Pack, Call::Check]));
     print_summary(&figures);
 }

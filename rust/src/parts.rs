@@ -59,3 +59,13 @@ pub fn chunks(number: u64, b: u32) -> Vec<u32> {
 pub fn chains(values: &[u32], b: u32) -> Vec<Vec<u32>> {
     values.iter().map(|&v| chunks(v.into(), b)).collect()
 }
+
+/// The chunks of some nodes' values, with chunks of zeros on top of some.
+pub fn with_zeros(values: &[u32], b: u32, random: &mut Random) -> Vec<Vec<u32>> {
+    let mut chains = chains(values, b);
+    for chain in &mut chains {
+        let zeros = [0, 0, 1, 33, random.below(100)][random.below(5)];
+        chain.resize(chain.len() + zeros, 0);
+    }
+    chains
+}

@@ -7,7 +7,7 @@ use gemcotton_tests::lend::lend;
 use gemcotton_tests::lists::{
     around_powers, falling_lists, few_lists, few_pins, rising, some_positions, targets, Answers,
 };
-use gemcotton_tests::parts::{any_code, chains, chunks, part_of_chunks};
+use gemcotton_tests::parts::{any_code, chunks, part_of_chunks, with_zeros};
 use gemcotton_tests::random::Random;
 use gemcotton_tests::reference::strip as reference;
 use gemcotton_tests::reference::strip::{image, refused, Refusal, PINS};
@@ -336,16 +336,6 @@ fn wasteful_strips() {
             check_list(&times, &wasteful(&times, 0, &mut random), &mut random);
         }
     }
-}
-
-/// The chunks of some nodes' values, with chunks of zeros on top of some.
-fn with_zeros(values: &[u32], b: u32, random: &mut Random) -> Vec<Vec<u32>> {
-    let mut chains = chains(values, b);
-    for chain in &mut chains {
-        let zeros = [0, 0, 1, 33, random.below(100)][random.below(5)];
-        chain.resize(chain.len() + zeros, 0);
-    }
-    chains
 }
 
 #[test]

@@ -6,12 +6,12 @@ use gemcotton_tests::lists::{
     around_powers, falling_lists, few_lists, few_pins, lists, rising, some_positions, sorted,
     sweep_targets, Answers, SORTS,
 };
-use gemcotton_tests::parts::chosen;
+use gemcotton_tests::parts::{any_code, chosen, part_of_chunks, with_zeros};
 use gemcotton_tests::random::Random;
 use gemcotton_tests::reference::strip as reference;
 use gemcotton_tests::reference::strip::{image, refused, Refusal, PINS};
 use gemcotton_tests::reference::tree::{
-    height, nodes_of_level, parts_of_values, rank, stored, HEIGHT,
+    height, nodes_of_level, parts_of_values, rank, stored, values_of_level, HEIGHT,
 };
 use gemcotton_tests::strips::{
     changes_of_bytes, changes_of_one_byte, damaged_long_lists, example, front, meet, packed,
@@ -162,8 +162,8 @@ fn some_times(strip: &[u8], random: &mut Random) -> Vec<u32> {
 /// A number of answers, and targets for a damaged strip. One in ten sweeps has any number of
 /// answers, and one in ten has targets in no order.
 fn some_sweep(strip: &[u8], random: &mut Random) -> (usize, Vec<u32>) {
-    // The reference is slow where the list is not short.
-    let most = if pins(strip) <= 300 { 40 } else { 10 };
+    // The reference is slow where the list is not short. From 64 targets on a sweep has marks.
+    let most = if pins(strip) <= 300 { 130 } else { 10 };
     let count = [1, 2, 3, random.below(most + 1)][random.below(4)];
     let times = some_times(strip, random);
     let mut targets = sweep_targets(&times, count, random.below(SORTS), random);
@@ -440,6 +440,25 @@ fn wasteful_strips() {
                 let sort = random.below(SORTS);
                 let targets = sweep_targets(&times, count, sort, &mut random);
                 check_list(&times, &strip, &targets);
+            }
+        }
+    }
+}
+
+/// Many targets, where many values of a level have more chunks than a sweep has marks for.
+#[test]
+fn long_chains() {
+    let mut random = Random(18);
+    for n in [1, 64, 300] {
+        for times in few_lists(n, 6, &mut random) {
+            let values = stored(&times);
+            for b in 1..=8 {
+                let level = 1 + random.below(height(n));
+                let mut levels = parts_of_values(&values, any_code(&mut random));
+                let chains = with_zeros(values_of_level(&values, level), b, &mut random);
+                levels[level - 1] = (64 + b as u8, part_of_chunks(&chains, b));
+                let targets = sweep_targets(&times, 100, random.below(SORTS), &mut random);
+                check_list(&times, &image(n, &levels), &targets);
             }
         }
     }
