@@ -10,7 +10,7 @@
  * pointer, uses a heap or has a state of its own, so calls may run at the same time where none writes what another is lent.
  *
  * Stack, measured on x86-64 and not proved: pack, check, unpack and repeat take at most 24 KiB for up to 1,023 pins, and at
- * most 540 KiB for more; every other call takes at most 4 KiB.
+ * most 540 KiB for more; sweep takes at most 28 KiB, and every other call at most 4 KiB.
  */
 #ifndef GEMCOTTON_H
 #define GEMCOTTON_H

@@ -66,8 +66,8 @@
 //! # Stack
 //!
 //! Measured on x86-64, and not proved: [`pack`], [`check`], [`unpack`] and [`repeat`] take at most
-//! 24 KiB of the stack for up to 1,023 pins, and at most 540 KiB for more. Every other call takes
-//! at most 4 KiB.
+//! 24 KiB of the stack for up to 1,023 pins, and at most 540 KiB for more. [`sweep`] takes at most
+//! 28 KiB, and every other call at most 4 KiB.
 
 #![warn(missing_docs)]
 
