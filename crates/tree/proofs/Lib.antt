@@ -18,6 +18,7 @@ pub mod NodeFetches
 pub mod NodeTimes
 pub mod Orders
 pub mod Paths
+pub mod Preorder
 pub mod Promises
 pub mod Ranks
 pub mod NodePlaces

@@ -15,10 +15,11 @@ use Rattle.tree.specs.Times.{at, timesIn}
 use Rattle.tree.specs.Listing.{nowhere, timesFrom, timesAll, stopAll}
 use Rattle.tree.specs.Walks.{toward, accessAnswer, searchNodes, searchAnswer}
 use Rattle.tree.specs.Sweeps.{sweep}
-use Rattle.tree.specs.Promises.{HeightLeast, Shape, Held, Contents, SearchFinds, AccessOpens, StoredLevels, ListingFinds, SweepFinds, ChosenStored, StoredChosen, ZeroMarks}
+use Rattle.tree.specs.Promises.{HeightLeast, Shape, Held, Contents, SearchFinds, AccessOpens, StoredLevels, ListingFinds, SweepFinds, ChosenStored, StoredChosen, ZeroMarks, SweepOpens}
 use Rattle.tree.proofs.Heights.{digits, height-bound, height-le, height-is}
 use Rattle.tree.proofs.Stretches.{stretch-root, stretch-left, stretch-right, node-iff}
 use Rattle.tree.proofs.Inorder.{tree}
+use Rattle.tree.proofs.Preorder.{nodes-rise, nodes-counted}
 use Rattle.tree.proofs.Ranks.{rank-lt, rank-found}
 use Rattle.tree.proofs.Walks.{walk-length, toward-on, met-told}
 use Rattle.tree.proofs.Paths.{toward-rank, rank-once, fromRoot-length, access-answer, search-path, search-answer}
@@ -131,3 +132,6 @@ stored-chosen = codes-chosen
 
 pub zero-marks : ZeroMarks
 zero-marks = marks-zero
+
+pub sweep-opens : SweepOpens
+sweep-opens = record { rises = nodes-rise; count = nodes-counted }

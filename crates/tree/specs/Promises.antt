@@ -1,5 +1,5 @@
 -- What is shown of the tree besides each function's contract. proofs/Promises proves each, as `height-least`, `shape`, `contents`,
--- `search-finds`, `access-opens`, `stored-levels`, `listing-finds`, `sweep-finds`, `chosen-stored`, `stored-chosen` and `zero-marks`.
+-- `search-finds`, `access-opens`, `stored-levels`, `listing-finds`, `sweep-finds`, `chosen-stored`, `stored-chosen`, `zero-marks` and `sweep-opens`.
 use mathlib.Core.Path.{_≡_}
 use mathlib.Core.Logic.{_≢_, _↔_}
 use mathlib.Core.Bool.{Bool, true, false}
@@ -19,7 +19,7 @@ use Rattle.tree.specs.Times.{Time, at, timesIn}
 use Rattle.tree.specs.Listing.{nowhere, accesses, timesFrom, stopFrom, timesAll, stopAll, endOf}
 use Rattle.tree.specs.Chosen.{allChosen}
 use Rattle.tree.specs.Walks.{walk, Answer, found, toward, accessAnswer, searchNodes, searchAnswer, path, fromRoot}
-use Rattle.tree.specs.Sweeps.{sweepAll, different}
+use Rattle.tree.specs.Sweeps.{sweep, sweepNodes, sweepAll, different}
 
 -- The height is the least number with 2 ^ h - 1 ≥ n.
 pub record HeightLeast : Type 0 where
@@ -115,3 +115,10 @@ StoredChosen = (levels : Levels) (s xs : List ℕ) → Stores levels s xs
 -- 10. Entries that are all 0 are marks of any levels, however many they are.
 abbrev pub ZeroMarks : Type 0
 ZeroMarks = (ends s : List ℕ) (n : ℕ) → LevelMarks ends s (replicate n 0)
+
+-- 11. A sweep of any targets on any strip opens the nodes of a level from left to right, so none twice. Where nothing is refused, its count
+-- is that of the nodes.
+pub record SweepOpens : Type 0 where
+  pub rises : (n : ℕ) (time : ℕ → Time) (ts : List ℕ) (i j : ℕ) → let vs = sweepNodes n time ts in
+      i < j → j < length vs → levelOf (getD vs i 0) ≡ levelOf (getD vs j 0) → getD vs i 0 < getD vs j 0
+  pub count : (n : ℕ) (time : ℕ → Time) (ts : List ℕ) (k : ℕ) → sweep n time ts .answer ≡ found 0 k → k ≡ length (sweepNodes n time ts)

@@ -1,6 +1,6 @@
 -- Sweeps: many targets in one walk, and the different nodes on their paths.
 use mathlib.Core.Bool.{Bool, true, false, cond, _||_}
-use mathlib.Core.List.{List, [], _∷_}
+use mathlib.Core.List.{List, [], _∷_, _++_}
 use Prim.Native.Nat.{ℕ, zero, suc, _+_}
 use lib.Dec.{eqb}
 use lib.ListN.{length}
@@ -9,7 +9,7 @@ use Rattle.tree.specs.declared.sweeping.Swept.the-variants as sweeping
 use Rattle.tree.specs.Shape.{childOf}
 use Rattle.tree.specs.declared.nodes.Levels.{Levels}
 use Rattle.tree.specs.Times.{Time, numberOf, nodeOf, timesIn}
-use Rattle.tree.specs.Walks.{Answer, found, stopped, isBelow, keptFrom, targetFrom, path}
+use Rattle.tree.specs.Walks.{Answer, found, stopped, isBelow, searchNodes, keptFrom, targetFrom, path}
 
 -- the nodes still remembered, and the node to go on from
 pub record Dropped : Type 0 where
@@ -43,6 +43,16 @@ sweepFrom n time from kept k (t ∷ ts) =
 -- the first target as search does
 abbrev pub sweep : ℕ → (ℕ → Time) → List ℕ → Sweep
 sweep n time ts = sweepFrom n time 1 [] 0 ts
+
+-- the nodes that it opens, in order; where one is refused, none after it
+unfoldable pub sweepNodesFrom : ℕ → (ℕ → Time) → ℕ → List ℕ → List ℕ → List ℕ
+sweepNodesFrom n time from kept [] = []
+sweepNodesFrom n time from kept (t ∷ ts) =
+    let d = dropped (isBelow time t) from kept in
+    searchNodes n time t (d .from) ++ sweepNodesFrom n time (suc n) (keptFrom n time t (d .kept) (d .from)) ts
+
+abbrev pub sweepNodes : ℕ → (ℕ → Time) → List ℕ → List ℕ
+sweepNodes n time ts = sweepNodesFrom n time 1 [] ts
 
 -- in the bytes of a strip
 abbrev pub sweepAll : Levels → List ℕ → List ℕ → Sweep
