@@ -3,18 +3,17 @@ use mathlib.Core.Path.{_≡_, refl, sym}
 use mathlib.Core.Bool.{Bool, true, false, cond}
 use mathlib.Core.List.{List, [], _∷_, _++_, map, map-append, append-assoc, append-nil}
 use Prim.Native.Nat.{ℕ, _+_, _*_, _/_, _%_, _^_, _≤_, _<_}
-use native.Mathlib.Nat.{add-zero, le-refl, le-trans, mul-le-mul-left, div-mul-le-self, mod-lt}
+use native.Mathlib.Nat.{add-zero, le-refl, le-trans, mul-le-mul-left, div-mul-le-self}
 use native.Mathlib.Numerals.{add-one}
 use native.Mathlib.Omega.{arith}
 use lib.Dec.{eqb}
 use lib.ListN.{length, take, drop, set, getD, length-append, length-map}
 use lib.Seq.{take-suc, take-add, length-take-le, take-set-le, take-suc-set}
-use lib.Arith.{digits-lt}
-use lib.Pow.{pow-mono, pow-pos, pow-add, high}
+use lib.Pow.{pow-mono}
 use borrow.Author.Tests.{eqb-false}
 use Rattle.codes.specs.Bits.{bits, number, sum, fixed}
 use Rattle.codes.specs.Codes.{continuation, rest, chunked, Within}
-use Rattle.codes.proofs.Bits.{length-bits, length-fixed, number-append, number-bits, fixed-append, bits-low, bits-split, bits-mod}
+use Rattle.codes.proofs.Bits.{length-bits, length-fixed, number-append, number-bits, fixed-append}
 use Rattle.codes.proofs.Layers.{rest-append, chunked-step}
 
 -- ---- continuation bits
@@ -42,30 +41,6 @@ pub fixed-suc : (w : ℕ) (vs : List ℕ) (i : ℕ) → i < length vs → fixed 
 unfolding fixed
 fixed-suc w vs i h =
     rw (add-one i, take-suc vs i 0 h, fixed-append w (take i vs) (getD vs i 0 ∷ []), append-nil (bits w (getD vs i 0)))
-
--- two values in one number
-pub fixed-two : (w : ℕ) (vs : List ℕ) (i : ℕ) → i + 1 < length vs → let x = getD vs i 0 % 2 ^ w * 2 ^ w + getD vs (i + 1) 0 % 2 ^ w in
-    (x < 2 ^ (2 * w)) × (fixed w (take (i + 2) vs) ≡ fixed w (take i vs) ++ bits (2 * w) x)
-fixed-two w vs i h =
-    let a = getD vs i 0 % 2 ^ w in
-    let b = getD vs (i + 1) 0 % 2 ^ w in
-    let lb : b < 2 ^ w = mod-lt (getD vs (i + 1) 0) (pow-pos w) in
-    let twice : 2 * w ≡ w + w = omega arith in
-    let more : i + 2 ≡ i + 1 + 1 = omega arith in (
-      rw (twice, pow-add 2 w w) (digits-lt {c = 2 ^ w} (mod-lt (getD vs i 0) (pow-pos w)) lb),
-      rw (
-        more,
-        fixed-suc w vs (i + 1) h,
-        fixed-suc w vs i (omega arith),
-        append-assoc (fixed w (take i vs)) (bits w (getD vs i 0)) (bits w (getD vs (i + 1) 0)),
-        twice,
-        bits-split w w (a * 2 ^ w + b),
-        high a w lb,
-        bits-low w a b,
-        bits-mod w (getD vs i 0),
-        bits-mod w (getD vs (i + 1) 0),
-      ),
-    )
 
 pub fixed-add : (w : ℕ) (vs : List ℕ) (i k : ℕ) → fixed w (take (i + k) vs) ≡ fixed w (take i vs) ++ fixed w (take k (drop i vs))
 fixed-add w vs i k = rw (take-add i k vs) (fixed-append w (take i vs) (take k (drop i vs)))

@@ -74,16 +74,6 @@ GroupRead b bytes vs g kept mores chunks =
 abbrev pub GroupMerged : ℕ → List ℕ → Span → List ℕ → ℕ → List ℕ → ℕ → Type 0
 GroupMerged b bytes g vs kept vs' kept' = Merges b bytes (g .at) (g .n) vs (g .from + g .k) kept vs' (g .from) kept'
 
--- the values from i up to j are their chunks alone
-abbrev pub Alone : ℕ → List ℕ → List ℕ → ℕ → ℕ → Type 0
-Alone b bs vs i j = (q : ℕ) → i ≤ q → q < j → getD vs q 0 ≡ number (take b (drop (q * b) bs))
-
--- only they are written
-pub record Put (b : ℕ) (bs vs : List ℕ) (i j : ℕ) (vs' : List ℕ) : Type 0 where
-  pub alone : Alone b bs vs' i j
-  pub before : (q : ℕ) → q < i → getD vs' q 0 ≡ getD vs q 0
-  pub after : (q : ℕ) → j ≤ q → getD vs' q 0 ≡ getD vs q 0
-
 -- an answer and a buffer's content, by what decoding finds
 abbrev pub Says : Decoded → Bool → List ℕ → Type 0
 Says (all vs) r now = (r ≡ true) × (now ≡ vs)

@@ -17,7 +17,7 @@ ghost use lib.ListN.{length, take, drop};
 ghost use Rattle.codes.specs.Bits.{number, sum, bitsOf};
 ghost use Rattle.codes.specs.Radix.{IsRadix};
 ghost use Rattle.codes.specs.Decode.{merged, fromOne, decodedLayers, kindDecoded, decoded, isDecoded, decodedOr0};
-ghost use Rattle.codes.specs.Merging.{InPart, FixedTo, continuationsAt, chunksAt, continuationWord, chunkWord, Small, Alone, Put, GroupNext, GroupRead, GroupMerged, Says};
+ghost use Rattle.codes.specs.Merging.{InPart, FixedTo, continuationsAt, chunksAt, Small, GroupNext, GroupRead, GroupMerged, Says};
 ghost use Rattle.codes.specs.declared.kinds.Kind.the-variants.{Fixed};
 
 // A value of 32 bits has at most 32 chunks.
@@ -159,7 +159,7 @@ fn merge_each(
     kept
 }
 
-// As `merge_each`, with the small widths as constants, of which the compiler makes faster shifts. It would join calls that differ in one
+// As `merge_each`, with the widths 1 and 2 as constants, of which the compiler makes faster shifts. It would join calls that differ in one
 // constant, so the width comes with its power.
 fn merge_by_width(
     values: &mut [u32],
@@ -183,77 +183,11 @@ fn merge_by_width(
             let two = radix_of(2);
             merge_each(values, part, two, span, kept, mores, chunks)
         }
-        3 => {
-            let three = radix_of(3);
-            merge_each(values, part, three, span, kept, mores, chunks)
-        }
-        4 => {
-            let four = radix_of(4);
-            merge_each(values, part, four, span, kept, mores, chunks)
-        }
         _ => merge_each(values, part, radix, span, kept, mores, chunks),
     }
 }
 
-// Writes the chunks of a group, the last first.
-fn put_each(values: &mut [u32], part: &[u8], b: usize, span: Span, chunks: u64)
-    requires { ⌜ (b ≤ 8) × (span .from + span .k ≤ length (now values)) × (span .at + span .n + (span .from + span .k) * b ≤ length (now part) * 8) ⌝ }
-    requires { ⌜ chunks ≡ chunkWord b (now part) (span .at) (span .n) (span .from) (span .k) ⌝ }
-    ensures { λ r. ⌜ Put b (chunksAt (now (part .entry)) (span .at) (span .n)) (now (values .entry)) (span .from) (span .from + span .k) (now (values .exit)) ⌝ }
-{
-    let mut chunks = chunks;
-    let mut j = span.k;
-    while j > 0 {
-        j -= 1;
-        values[span.from + j] = low_bits(chunks, b) as u32;
-        chunks = chunks >> b;
-    }
-}
-
-// Puts rests above the chunks of a group, where the continuation bit is 1: the lowest 1 of `mores` each time, which is the last value's.
-fn add_rests(
-    values: &mut [u32],
-    part: &[u8],
-    b: usize,
-    span: Span,
-    kept: usize,
-    mores: u64,
-) -> usize
-    requires { ⌜ GroupNext b (now part) (now values) span kept × (mores ≡ continuationWord (now part) (span .at) (span .from) (span .k)) ⌝ }
-    requires { ⌜ (span .k < 64) × Alone b (chunksAt (now part) (span .at) (span .n)) (now values) (span .from) (span .from + span .k) ⌝ }
-    ensures { λ r. ⌜ GroupMerged b (now (part .entry)) span (now (values .entry)) kept (now (values .exit)) r ⌝ }
-{
-    let mut mores = mores;
-    let mut kept = kept;
-    while mores > 0 {
-        kept -= 1;
-        let i = span.from + span.k - 1 - u64::trailing_zeros(mores) as usize;
-        values[i] = ((wide_value(values[kept]) << b) + wide_value(values[i])) as u32;
-        mores = mores & (mores - 1);
-    }
-    kept
-}
-
-// Merges a group that no rest stands in, its chunks first. It takes no time for a continuation bit that is 0.
-fn merge_chunks_first(
-    values: &mut [u32],
-    part: &[u8],
-    b: usize,
-    span: Span,
-    kept: usize,
-    mores: u64,
-    chunks: u64,
-) -> usize
-    requires { ⌜ GroupRead b (now part) (now values) span kept mores chunks ⌝ }
-    requires { ⌜ (span .k < 64) × (kept ≤ span .from) ⌝ }
-    ensures { λ r. ⌜ GroupMerged b (now (part .entry)) span (now (values .entry)) kept (now (values .exit)) r ⌝ }
-{
-    put_each(values, part, b, span, chunks);
-    add_rests(values, part, b, span, kept, mores)
-}
-
-// Merges a group, whose bits are read at once. A rest stands in the group's place where fewer than `k` values up to the group's end have
-// none; writing the chunks first would lose it, so such a group is merged value by value. Gives how many rests are left.
+// Merges a group, whose bits are read at once. Gives how many rests are left.
 fn merge_group(values: &mut [u32], part: &[u8], radix: Radix, span: Span, kept: usize) -> usize
     requires { ⌜ IsRadix radix × GroupNext (radix .bits) (now part) (now values) span kept ⌝ }
     requires { ⌜ (1 ≤ span .k) × (span .k * radix .bits ≤ 56) × (length (now part) < 2 ^ 32) ⌝ }
@@ -264,10 +198,7 @@ fn merge_group(values: &mut [u32], part: &[u8], radix: Radix, span: Span, kept: 
     let from = span.from;
     let mores = read(part, span.at + from, k);
     let chunks = read(part, span.at + span.n + from * b, k * b);
-    if kept > from {
-        return merge_by_width(values, part, radix, span, kept, mores, chunks);
-    }
-    merge_chunks_first(values, part, b, span, kept, mores, chunks)
+    merge_by_width(values, part, radix, span, kept, mores, chunks)
 }
 
 // Merges the layer of `n` values that begins at bit `at` with the `rests`, the values of the layers after it, which stand at the front.

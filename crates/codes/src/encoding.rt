@@ -9,15 +9,15 @@ use super::writing::put;
 use super::writing::wide_value;
 ghost use mathlib.Core.Path.{_≡_};
 ghost use mathlib.Core.List.{_++_};
-ghost use Prim.Native.Nat.{_+_, _*_, _%_, _<_, _≤_};
-ghost use lib.ListN.{length, take, drop, replicate};
+ghost use Prim.Native.Nat.{_+_, _*_, _<_, _≤_};
+ghost use lib.ListN.{length, drop, replicate};
 ghost use Rattle.codes.specs.Lists.{atFront};
 ghost use Rattle.codes.specs.Bits.{fixed};
 ghost use Rattle.codes.specs.Codes.{kindOf, part, Holds, worked};
 ghost use Rattle.codes.specs.Written.{Wrote};
 
 // Writes each value in `w` bits.
-fn put_ones(out: &mut [u8], writer: Writer, w: usize, values: &[u32]) -> Writer
+fn put_fixed(out: &mut [u8], writer: Writer, w: usize, values: &[u32]) -> Writer
     requires { ⌜ (w ≤ 32) × (writer .have < 32) ⌝ }
     requires { ⌜ writer .at * 8 + writer .have + length (now values) * w ≤ length (now out) * 8 ⌝ }
     ensures { λ r. ⌜ Wrote (now (out .entry)) writer (now (out .exit)) r (fixed w (now (values .entry))) × (r .have < 32) ⌝ }
@@ -29,37 +29,6 @@ fn put_ones(out: &mut [u8], writer: Writer, w: usize, values: &[u32]) -> Writer
         i += 1;
     }
     p
-}
-
-// Writes the first `stop` values, an even number, two at a time.
-fn put_twos(out: &mut [u8], writer: Writer, w: usize, values: &[u32], stop: usize) -> Writer
-    requires { ⌜ (w ≤ 16) × (writer .have < 32) × (stop ≤ length (now values)) × (stop % 2 ≡ 0) ⌝ }
-    requires { ⌜ writer .at * 8 + writer .have + stop * w ≤ length (now out) * 8 ⌝ }
-    ensures { λ r. ⌜ Wrote (now (out .entry)) writer (now (out .exit)) r (fixed w (take stop (now (values .entry)))) × (r .have < 32) ⌝ }
-{
-    let mut p = writer;
-    let mut i: usize = 0;
-    while i < stop {
-        let first = low_bits(wide_value(values[i]), w);
-        let second = low_bits(wide_value(values[i + 1]), w);
-        p = put(out, p, 2 * w, (first << w) + second);
-        i += 2;
-    }
-    p
-}
-
-// Writes each value in `w` bits, two at a time where 32 bits have them.
-fn put_fixed(out: &mut [u8], writer: Writer, w: usize, values: &[u32]) -> Writer
-    requires { ⌜ (w ≤ 32) × (writer .have < 32) ⌝ }
-    requires { ⌜ writer .at * 8 + writer .have + length (now values) * w ≤ length (now out) * 8 ⌝ }
-    ensures { λ r. ⌜ Wrote (now (out .entry)) writer (now (out .exit)) r (fixed w (now (values .entry))) × (r .have < 32) ⌝ }
-{
-    if w > 16 {
-        return put_ones(out, writer, w, values);
-    }
-    let stop = values.len() / 2 * 2;
-    let p = put_twos(out, writer, w, values, stop);
-    put_ones(out, p, w, &values[stop..])
 }
 
 // Copies the values to the front.

@@ -22,26 +22,8 @@ merge-each-requires-2 c κs =
     let e = c .before .radix-of2 .ensures .0 ∙ sym (c .before .before .match .keys2) in
     (c .before .radix-of2 .ensures .1, rw e (p .1))
 
-radix-of-requires-3 : tie.Need-radix-of-requires-3
-radix-of-requires-3 c κs = search needs
-
 merge-each-requires-3 : tie.Need-merge-each-requires-3
-merge-each-requires-3 c κs =
-    let p = c .before .before .before .before .before .pre in
-    let e = c .before .radix-of3 .ensures .0 ∙ sym (c .before .before .match .keys3) in
-    (c .before .radix-of3 .ensures .1, rw e (p .1))
-
-radix-of-requires-4 : tie.Need-radix-of-requires-4
-radix-of-requires-4 c κs = search needs
-
-merge-each-requires-4 : tie.Need-merge-each-requires-4
-merge-each-requires-4 c κs =
-    let p = c .before .before .before .before .before .pre in
-    let e = c .before .radix-of4 .ensures .0 ∙ sym (c .before .before .match .keys4) in
-    (c .before .radix-of4 .ensures .1, rw e (p .1))
-
-merge-each-requires-5 : tie.Need-merge-each-requires-5
-merge-each-requires-5 c κs = search needs
+merge-each-requires-3 c κs = search needs
 
 same-length : tie.Need-same-length
 same-length c = search needs
@@ -63,23 +45,7 @@ same-length-3 : tie.Need-same-length-3
 same-length-3 c = search needs
 
 returns-3 : tie.Need-returns-3
-returns-3 c =
-    let e = c .before .before .before .before .radix-of3 .ensures .0 ∙ sym (c .before .before .before .before .before .match .keys3) in
-    rw e at (c .before .before .merge-each3 .ensures)
-
-same-length-4 : tie.Need-same-length-4
-same-length-4 c = search needs
-
-returns-4 : tie.Need-returns-4
-returns-4 c =
-    let e = c .before .before .before .before .radix-of4 .ensures .0 ∙ sym (c .before .before .before .before .before .match .keys4) in
-    rw e at (c .before .before .merge-each4 .ensures)
-
-same-length-5 : tie.Need-same-length-5
-same-length-5 c = search needs
-
-returns-5 : tie.Need-returns-5
-returns-5 c = search needs
+returns-3 c = search needs
 
 pub merge-by-width-spec : {M : Type 1} → statement M
 merge-by-width-spec =
@@ -89,18 +55,10 @@ merge-by-width-spec =
     merge-each-requires
     radix-of-requires-2
     merge-each-requires-2
-    radix-of-requires-3
     merge-each-requires-3
-    radix-of-requires-4
-    merge-each-requires-4
-    merge-each-requires-5
     same-length
     returns
     same-length-2
     returns-2
     same-length-3
-    returns-3
-    same-length-4
-    returns-4
-    same-length-5
-    returns-5)
+    returns-3)

@@ -41,25 +41,14 @@ read-requires-2 c κs =
 
 merge-by-width-requires : tie.Need-merge-by-width-requires
 merge-by-width-requires c κs =
-    let g = c .before .before .before .before .before .before .before .before in
-    (g .pre .0 .0, (g .pre .0 .1, rw (mul-one (g .args .span .k)) (c .before .before .before .before .read .ensures .1), c .before .before .read2 .ensures .1))
+    let g = c .before .before .before .before .before .before .before in
+    (g .pre .0 .0, (g .pre .0 .1, rw (mul-one (g .args .span .k)) (c .before .before .before .read .ensures .1), c .before .read2 .ensures .1))
 
 same-length : tie.Need-same-length
 same-length c = search needs
 
 returns : tie.Need-returns
 returns c = search needs
-
-merge-chunks-first-requires : tie.Need-merge-chunks-first-requires
-merge-chunks-first-requires c κs =
-    let g = c .before .before .before .before .before .before .before .before in
-    ((g .pre .0 .1, rw (mul-one (g .args .span .k)) (c .before .before .before .before .read .ensures .1), c .before .before .read2 .ensures .1), (omega (arith, few g), omega arith))
-
-same-length-2 : tie.Need-same-length-2
-same-length-2 c = search needs
-
-returns-2 : tie.Need-returns-2
-returns-2 c = search needs
 
 pub merge-group-spec : {M : Type 1} → statement M
 merge-group-spec =
@@ -74,7 +63,4 @@ merge-group-spec =
     read-requires-2
     merge-by-width-requires
     same-length
-    returns
-    merge-chunks-first-requires
-    same-length-2
-    returns-2)
+    returns)

@@ -1,89 +1,89 @@
--- `put_fixed` meets its contract.
+-- Each turn writes the bits of one value after those of the values before it.
 use native.Mathlib.Omega.{arith}
-use mathlib.Core.Path.{_≡_, ap}
-use mathlib.Core.List.{List}
-use Prim.Native.Nat.{ℕ, _+_, _-_, _*_, _/_, _≤_}
+use mathlib.Core.Path.{_≡_}
+use Prim.Native.Nat.{_+_, _-_, _≤_, _<_}
 use native.Mathlib.Nat.{mul-le-mul-right}
-use lib.ListN.{length, drop, length-drop}
-use lib.Seq.{take-length, length-take-le}
-use borrow.Author.Needs.{needs}
-use Rattle.codes.proofs.BitsWritten.{wrote-both}
-use Rattle.codes.proofs.LayersWritten.{fixed-add, length-fixed-take}
+use lib.ListN.{length, take, getD}
+use lib.Seq.{take-length}
+use Rattle.codes.specs.Bits.{fixed}
+use Rattle.codes.specs.Written.{Wrote}
+use Rattle.codes.proofs.Bits.{bits-mod}
+use Rattle.codes.proofs.BitsWritten.{wrote-nothing, wrote-both}
+use Rattle.codes.proofs.LayersWritten.{fixed-suc, length-fixed-take}
 use Rattle.codes.proofs.encoding.put_fixed.Statement.{statement}
 use Rattle.codes.proofs.encoding.put_fixed.Tie as tie
 
--- the values that are written by twos
-abbrev even : List ℕ → ℕ
-even vs = length vs / 2 * 2
+abbrev Inv-loop : tie.InvT-loop
+Inv-loop out₀ w values p₀ i₀ out p i = (i ≤ length values) × Wrote out₀ p₀ out p (fixed w (take i values)) × (p .have < 32)
 
--- and what is left, if anything is
-abbrev left : List ℕ → ℕ
-left vs = length vs - even vs
+abbrev μ-loop : tie.MeasureT-loop
+μ-loop out₀ w values p₀ i₀ out p i = length values - i
 
-all : (vs : List ℕ) → even vs + left vs ≡ length vs
-all vs = omega arith
+loop-holds : tie.Need-loop-holds Inv-loop μ-loop
+unfolding fixed
+loop-holds c =
+    let a = c .before .before .args in
+    (omega arith, wrote-nothing (a .out .now) (a .writer), omega arith)
 
-put-ones-requires : tie.Need-put-ones-requires
-put-ones-requires c κs = search needs
+mul-wide-value : tie.Need-mul-wide-value Inv-loop μ-loop
+mul-wide-value c = omega arith
 
-same-length : tie.Need-same-length
-same-length c = search needs
+shared-slice-read-wide-value : tie.Need-shared-slice-read-wide-value Inv-loop μ-loop
+shared-slice-read-wide-value c = omega arith
 
-returns : tie.Need-returns
-returns c = search needs
+wide-value-requires : tie.Need-wide-value-requires Inv-loop μ-loop
+wide-value-requires c κs = omega arith
 
-mul-stop : tie.Need-mul-stop
-mul-stop c = search needs
+low-bits-requires : tie.Need-low-bits-requires Inv-loop μ-loop
+low-bits-requires c κs = omega arith
 
-put-twos-requires : tie.Need-put-twos-requires
-put-twos-requires c κs =
-    let a = c .before .before .before .before .args in
-    let h : even (a .values .now) ≤ length (a .values .now) = omega arith in
-    omega (arith, mul-le-mul-right (a .w) h)
+put-requires : tie.Need-put-requires Inv-loop μ-loop
+put-requires c κs =
+    let l = c .before .before .before .before .before .loop in
+    let a = c .before .before .before .before .before .before .before .before .args in
+    let w = l .inv .1 in
+    let t : l .i + 1 ≤ length (a .values .now) = omega arith in
+    omega (arith, length-fixed-take (a .w) (a .values .now) (l .i) (omega arith), mul-le-mul-right (a .w) t)
 
-mul-put-ones : tie.Need-mul-put-ones
-mul-put-ones c = search needs
+add-i : tie.Need-add-i Inv-loop μ-loop
+add-i c = omega arith
 
-sub-put-ones : tie.Need-sub-put-ones
-sub-put-ones c = search needs
+loop-less : tie.Need-loop-less Inv-loop μ-loop
+loop-less c = omega arith
 
-part-put-ones-start : tie.Need-part-put-ones-start
-part-put-ones-start c = search needs
+loop-again : tie.Need-loop-again Inv-loop μ-loop
+loop-again c =
+    let l = c .before .before .before .before .before .before .before .before .loop in
+    let a = c .before .before .before .before .before .before .before .before .before .before .before .args in
+    let u = c .before .before .put .ensures in
+    let x = getD (a .values .now) (l .i) 0 in
+    let b = rw (c .before .before .before .low-bits .ensures .1, c .before .before .before .before .wide-value .ensures, bits-mod (a .w) x) at (u .0) in
+    (omega arith, rw (fixed-suc (a .w) (a .values .now) (l .i) (omega arith)) (wrote-both (l .inv .1) b), u .1)
 
-part-put-ones-end : tie.Need-part-put-ones-end
-part-put-ones-end c = search needs
+same-length : tie.Need-same-length Inv-loop μ-loop
+same-length c = c .before .loop .inv .1 .kept
 
-put-ones-requires-2 : tie.Need-put-ones-requires-2
-put-ones-requires-2 c κs =
-    let a = c .before .before .before .before .before .before .before .before .before .args in
-    let vs = a .values .now in
-    let wrote = c .before .before .before .before .put-twos .ensures .0 in
-    let n = length-take-le (left vs) (drop (even vs) vs) (simp length-drop (omega arith)) in
-    rw n (omega (arith, length-fixed-take (a .w) vs (even vs) (omega arith), wrote .place, wrote .kept, ap (λ (x : ℕ). x * a .w) (all vs)))
-
-same-length-2 : tie.Need-same-length-2
-same-length-2 c = search needs
-
-returns-2 : tie.Need-returns-2
-returns-2 c =
-    let a = c .before .before .before .before .before .before .before .before .before .before .before .before .args in
-    let vs = a .values .now in
-    let both = wrote-both (c .before .before .before .before .before .before .before .put-twos .ensures .0) (c .before .before .put-ones2 .ensures .0) in
-    (rw (← (fixed-add (a .w) vs (even vs) (left vs)), all vs, take-length vs) at both, c .before .before .put-ones2 .ensures .1)
+returns : tie.Need-returns Inv-loop μ-loop
+returns c =
+    let l = c .before .loop in
+    let vs = c .before .before .before .before .args .values .now in
+    let e : l .i ≡ length vs = omega arith in
+    (rw (e, take-length vs) at (l .inv .1), l .inv .2)
 
 pub put-fixed-spec : {M : Type 1} → statement M
 put-fixed-spec =
     tie.close
     (tie.spec
-    put-ones-requires
+    Inv-loop
+    μ-loop
+    loop-holds
+    mul-wide-value
+    shared-slice-read-wide-value
+    wide-value-requires
+    low-bits-requires
+    put-requires
+    add-i
+    loop-less
+    loop-again
     same-length
-    returns
-    mul-stop
-    put-twos-requires
-    mul-put-ones
-    sub-put-ones
-    part-put-ones-start
-    part-put-ones-end
-    put-ones-requires-2
-    same-length-2
-    returns-2)
+    returns)
