@@ -12,8 +12,6 @@ mod walker; // the pin walker
 mod writing; // the image's bytes
 
 pub use refusals::Refusal;
-pub use refusals::carried;
-pub use refusals::number;
 pub use strip::Accessed;
 pub use strip::Checked;
 pub use strip::Packed;

@@ -1,4 +1,8 @@
 // The calls on strips for programs in other languages, on numbers and slices. include/gemcotton.h declares them.
+mod refusals; // a refusal as two numbers
+
+pub use refusals::carried;
+pub use refusals::number;
 ghost use mathlib.Core.Path.{_≡_};
 ghost use lib.ListN.{length};
 ghost use Rattle.tree.specs.Shape.{height, rootPlace, ranked};
@@ -14,8 +18,6 @@ use strip::Searched;
 use strip::Stepped;
 use strip::Strip;
 use strip::Swept;
-use strip::carried;
-use strip::number;
 
 // 0, what is given and the nodes opened; or the number of a refusal, what it carries and 0.
 #[repr(C)]

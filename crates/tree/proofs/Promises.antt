@@ -7,6 +7,7 @@ use native.Mathlib.Omega.{arith}
 use lib.Dec.{eqb, ltb}
 use lib.ListN.{length}
 use lib.Pow.{pow-pos}
+use Rattle.codes.specs.Decode.{all}
 use Rattle.tree.specs.declared.nodes.Levels.{Levels}
 use Rattle.tree.specs.Shape.{rank}
 use Rattle.tree.specs.Stored.{timeOf}
@@ -15,7 +16,7 @@ use Rattle.tree.specs.Times.{at, timesIn}
 use Rattle.tree.specs.Listing.{nowhere, timesFrom, timesAll, stopAll}
 use Rattle.tree.specs.Walks.{toward, accessAnswer, searchNodes, searchAnswer}
 use Rattle.tree.specs.Sweeps.{sweep}
-use Rattle.tree.specs.Promises.{HeightLeast, Shape, Held, Contents, SearchFinds, AccessOpens, StoredLevels, ListingFinds, SweepFinds, ChosenStored, StoredChosen, ZeroMarks, SweepOpens}
+use Rattle.tree.specs.Promises.{HeightLeast, Shape, Held, Contents, SearchFinds, AccessOpens, StoredLevels, ListingFinds, SweepFinds, ChosenStored, StoredChosen, DecodedChosen, ZeroMarks, SweepOpens}
 use Rattle.tree.proofs.Heights.{digits, height-bound, height-le, height-is}
 use Rattle.tree.proofs.Stretches.{stretch-root, stretch-left, stretch-right, node-iff}
 use Rattle.tree.proofs.Inorder.{tree}
@@ -29,7 +30,8 @@ use Rattle.tree.proofs.Listings.{times-end, times-known}
 use Rattle.tree.proofs.TimeBounds.{times-within}
 use Rattle.tree.proofs.ListedValues.{listed-chosen}
 use Rattle.tree.proofs.LevelMarks.{marks-zero}
-use Rattle.tree.proofs.LevelsChosen.{codes-chosen}
+use Rattle.tree.proofs.AllValues.{all-of}
+use Rattle.tree.proofs.LevelsChosen.{undecoded-other, codes-chosen}
 use Rattle.tree.proofs.LevelValues.{length-stored, stored-within, level-within, level-half, level-above, fetched-stored}
 
 pub height-least : HeightLeast
@@ -129,6 +131,12 @@ chosen-stored = listed-chosen
 
 pub stored-chosen : StoredChosen
 stored-chosen = codes-chosen
+
+pub decoded-chosen : DecodedChosen
+decoded-chosen = record {
+  values = λ levels s values d. all-of (levels .pins) _ (sym (d .told)) ∙ ap all (sym (d .left));
+  others = λ levels s values d. undecoded-other levels s (sym (d .told));
+}
 
 pub zero-marks : ZeroMarks
 zero-marks = marks-zero

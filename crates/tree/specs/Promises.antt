@@ -1,5 +1,6 @@
 -- What is shown of the tree besides each function's contract. proofs/Promises proves each, as `height-least`, `shape`, `contents`,
--- `search-finds`, `access-opens`, `stored-levels`, `listing-finds`, `sweep-finds`, `chosen-stored`, `stored-chosen`, `zero-marks` and `sweep-opens`.
+-- `search-finds`, `access-opens`, `stored-levels`, `listing-finds`, `sweep-finds`, `chosen-stored`, `stored-chosen`, `decoded-chosen`,
+-- `zero-marks` and `sweep-opens`.
 use mathlib.Core.Path.{_≡_}
 use mathlib.Core.Logic.{_≢_, _↔_}
 use mathlib.Core.Bool.{Bool, true, false}
@@ -9,6 +10,7 @@ use lib.Dec.{T}
 use lib.ListN.{length, getD, replicate}
 use Rattle.codes.specs.Codes.{part, Within}
 use Rattle.codes.specs.Choice.{chosen}
+use Rattle.codes.specs.Decode.{all}
 use Rattle.tree.specs.declared.nodes.Levels.{Levels}
 use Rattle.tree.specs.Shape.{height, sideOf, stretch, rank}
 use Rattle.tree.specs.Lists.{ordered, smaller}
@@ -17,6 +19,7 @@ use Rattle.tree.specs.Levels.{firstOf, levelOf, codeOf, partOf, levelVal
 use Rattle.tree.specs.LevelMarks.{LevelMarks}
 use Rattle.tree.specs.Times.{Time, at, timesIn}
 use Rattle.tree.specs.Listing.{nowhere, accesses, timesFrom, stopFrom, timesAll, stopAll, endOf}
+use Rattle.tree.specs.DecodedLevels.{decodedLevels, Decodes}
 use Rattle.tree.specs.Chosen.{allChosen}
 use Rattle.tree.specs.Walks.{walk, Answer, found, toward, accessAnswer, searchNodes, searchAnswer, path, fromRoot}
 use Rattle.tree.specs.Sweeps.{sweep, sweepNodes, sweepAll, different}
@@ -112,11 +115,16 @@ StoredChosen = (levels : Levels) (s xs : List ℕ) → Stores levels s xs
     → ((l : ℕ) → 1 ≤ l → l ≤ height (length xs) → codeOf levels l ≡ chosen (levelValues (storedValues xs) l) .code)
     → allChosen levels s ≡ true
 
--- 10. Entries that are all 0 are marks of any levels, however many they are.
+-- 10. Levels that are decoded have the values that stand in the buffer then; where one is not, they are not what pack writes.
+pub record DecodedChosen : Type 0 where
+  pub values : (levels : Levels) (s values : List ℕ) → Decodes levels s true values → decodedLevels levels s ≡ all values
+  pub others : (levels : Levels) (s values : List ℕ) → Decodes levels s false values → allChosen levels s ≡ false
+
+-- 11. Entries that are all 0 are marks of any levels, however many they are.
 abbrev pub ZeroMarks : Type 0
 ZeroMarks = (ends s : List ℕ) (n : ℕ) → LevelMarks ends s (replicate n 0)
 
--- 11. A sweep of any targets on any strip opens the nodes of a level from left to right, so none twice. Where nothing is refused, its count
+-- 12. A sweep of any targets on any strip opens the nodes of a level from left to right, so none twice. Where nothing is refused, its count
 -- is that of the nodes.
 pub record SweepOpens : Type 0 where
   pub rises : (n : ℕ) (time : ℕ → Time) (ts : List ℕ) (i j : ℕ) → let vs = sweepNodes n time ts in

@@ -1,14 +1,12 @@
 -- The levels decide; where one is not decoded, they are not what pack writes.
-use mathlib.Core.Path.{sym, ap, _∙_}
-use Rattle.codes.specs.Decode.{all}
-use Rattle.tree.proofs.AllValues.{all-of}
-use Rattle.tree.proofs.LevelsChosen.{undecoded-other}
+use mathlib.Core.Path.{sym, _∙_}
+use Rattle.tree.proofs.Promises.{decoded-chosen}
 use Rattle.strip.specs.Outcomes.{verdict}
 use Rattle.strip.proofs.reading.test_image.Statement.{statement}
 use Rattle.strip.proofs.reading.test_image.Tie as tie
 
 are-chosen-requires : tie.Need-are-chosen-requires
-are-chosen-requires c κs = let p = c .before .before .before .pre in (p .0, all-of _ _ (sym (p .1 .told) ∙ c .if1 .taken) ∙ ap all (sym (p .1 .left)))
+are-chosen-requires c κs = let p = c .before .before .before .pre in (p .0, decoded-chosen .values _ _ _ (rw (c .if1 .taken) at (p .1)))
 
 returns : tie.Need-returns
 unfolding verdict
@@ -20,7 +18,7 @@ returns-2 c = rw (sym (c .before .are-chosen .ensures) ∙ c .if2 .left)
 
 returns-3 : tie.Need-returns-3
 unfolding verdict
-returns-3 c = let b = c .before .before .before in rw (undecoded-other (b .args .levels) (b .args .s .now) (sym (b .pre .1 .told) ∙ c .if1 .left))
+returns-3 c = rw (decoded-chosen .others _ _ _ (rw (c .if1 .left) at (c .before .before .before .pre .1)))
 
 pub test-image-spec : {M : Type 1} → statement M
 test-image-spec = tie.close (tie.spec are-chosen-requires returns returns-2 returns-3)
