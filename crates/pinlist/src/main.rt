@@ -1,85 +1,72 @@
 // Reads a strip from standard input, checks it, and lists its times by access.
+mod lines; // the text, in a buffer
+
 use libc::STDIN_FILENO;
 use libc::STDOUT_FILENO;
-use strip_c::gemcotton_access;
-use strip_c::gemcotton_check;
+use lines::put_header;
+use lines::put_refusal;
+use lines::put_times;
+use strip::Checked;
+use strip::Strip;
+use strip::carried;
+use strip::number;
+ghost use mathlib.Core.Path.{_≡_};
+ghost use mathlib.Core.List.{_++_};
 ghost use Prim.Native.Nat.{_+_, _≤_};
-ghost use lib.ListN.{length};
+ghost use lib.ListN.{length, take};
+ghost use Rattle.strip.specs.Outcomes.{gives, refuses};
+ghost use Rattle.strip.specs.Calls.{checkOf};
+ghost use Rattle.pinlist.specs.Texts.{mostBytes, printed};
 
-// Puts a number in decimal, then the byte `after`, into the text from byte `at` on. Answers where they end.
-fn put_number(text: &mut [u8], at: usize, x: u64, after: u8) -> usize
-    requires { ⌜ at + 21 ≤ length (now text) ⌝ }
-    ensures { λ r. ⌜ r ≤ at + 21 ⌝ }
+// Writes the bytes that come next in what is printed for the input s, of which `done` are written. Answers how many are written then.
+fn write_next(s: &[u8], done: usize, piece: &[u8]) -> usize
+    requires { ⌜ take done (printed (now s)) ++ now piece ≡ take (done + length (now piece)) (printed (now s)) ⌝ }
+    ensures { λ r. ⌜ r ≡ done + length (now (piece .entry)) ⌝ }
 {
-    let mut digits = [0u8; 20];
-    let k = io::decimal(x, &mut digits);
-    let mut i: usize = 0;
-    while i < k {
-        text[at + i] = digits[i];
-        i += 1;
-    }
-    text[at + k] = after;
-    at + k + 1
+    io::write_all(STDOUT_FILENO, piece);
+    done + piece.len()
 }
 
-// Puts a line of two numbers.
-fn put_line(text: &mut [u8], at: usize, x: usize, y: usize) -> usize
-    requires { ⌜ at + 42 ≤ length (now text) ⌝ }
-    ensures { λ r. ⌜ r ≤ at + 42 ⌝ }
+// Prints the list of a strip of which check gives n, in large pieces.
+fn print_list(s: &[u8], n: usize) -> usize
+    requires { ⌜ (length (now s) ≤ mostBytes) × (checkOf (now s) ≡ gives n) ⌝ }
+    ensures { λ r. ⌜ r ≡ length (printed (now (s .entry))) ⌝ }
 {
-    let next = put_number(text, at, x as u64, b' ');
-    put_number(text, next, y as u64, b'\n')
-}
-
-// Puts the line of position i. No access to a strip that check accepts is refused, so the value is the time.
-fn put_time(text: &mut [u8], at: usize, s: &[u8], i: usize) -> usize
-    requires { ⌜ at + 42 ≤ length (now text) ⌝ }
-    ensures { λ r. ⌜ r ≤ at + 42 ⌝ }
-{
-    let found = gemcotton_access(s, i);
-    put_line(text, at, i, found.value)
-}
-
-// Writes the text where it is nearly full. Answers where the next line goes.
-fn flushed(text: &[u8], at: usize) -> usize
-    requires { ⌜ at ≤ length (now text) ⌝ }
-    ensures { λ r. ⌜ r ≤ 65000 ⌝ }
-{
-    if at > 65000 {
-        io::write_all(STDOUT_FILENO, &text[..at]);
-        return 0;
-    }
-    at
-}
-
-// Lists the times of an accepted strip of n pins, in large pieces.
-fn list_times(s: &[u8], n: usize) {
-    io::write_all(STDOUT_FILENO, b"pins ");
-    let mut text = [0u8; 65536];
-    let mut at = put_number(&mut text, 0, n as u64, b'\n');
+    let mut space = io::large_buffer();
+    let text: &mut [u8] = &mut space;
+    let end = put_header(text, n);
+    let mut done = write_next(s, 0, &text[..end]);
     let mut i: usize = 0;
     while i < n {
-        let next = flushed(&text, at);
-        at = put_time(&mut text, next, s, i);
-        i += 1;
+        let piece = put_times(text, s, i, n);
+        let end = piece.end;
+        done = write_next(s, done, &text[..end]);
+        i += piece.lines;
     }
-    io::write_all(STDOUT_FILENO, &text[..at]);
+    done
 }
 
-// Prints a refusal's number and what it carries.
-fn print_refusal(number: usize, carried: usize) {
-    io::write_all(STDOUT_FILENO, b"refused ");
-    let mut text = [0u8; 42];
-    let n = put_line(&mut text, 0, number, carried);
-    io::write_all(STDOUT_FILENO, &text[..n]);
+// Prints the refusal of a check.
+fn print_refusal(s: &[u8], number: usize, carried: usize) -> usize
+    requires { ⌜ (length (now s) ≤ mostBytes) × (checkOf (now s) ≡ refuses number carried) ⌝ }
+    ensures { λ r. ⌜ r ≡ length (printed (now (s .entry))) ⌝ }
+{
+    let mut text = [0u8; 50];
+    let end = put_refusal(&mut text, number, carried);
+    write_next(s, 0, &text[..end])
 }
 
-fn print_strip(s: &[u8]) {
-    let checked = gemcotton_check(s);
-    if checked.refusal == 0 {
-        list_times(s, checked.value);
-    } else {
-        print_refusal(checked.refusal, checked.value);
+// Prints what is printed for the input s. Answers how many bytes that is.
+fn print(s: &[u8]) -> usize
+    ensures { λ r. ⌜ r ≡ length (printed (now (s .entry))) ⌝ }
+{
+    if s.len() > 65536 {
+        return write_next(s, 0, b"too long\n");
+    }
+    let checked = Strip::check(s);
+    match checked {
+        Checked::Pins(n) => print_list(s, n),
+        Checked::Refused(r) => print_refusal(s, number(r), carried(r)),
     }
 }
 
@@ -87,9 +74,5 @@ fn print_strip(s: &[u8]) {
 fn main() {
     let mut bytes = [0u8; 65537];
     let n = io::read_full(STDIN_FILENO, &mut bytes);
-    if n > 65536 {
-        io::write_all(STDOUT_FILENO, b"too long\n");
-        return;
-    }
-    print_strip(&bytes[..n]);
+    print(&bytes[..n]);
 }

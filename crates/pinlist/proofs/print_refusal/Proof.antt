@@ -1,43 +1,54 @@
 -- `print_refusal` meets its contract.
 use native.Mathlib.Omega.{arith}
-use lib.ListN.{length-take}
+use mathlib.Core.Path.{_≡_, sym, ap, _∙_}
+use native.Mathlib.Nat.{zero-add}
+use Prim.Native.Nat.{_≤_}
+use lib.ListN.{length, take, length-take}
+use Rattle.pinlist.specs.Texts.{refusalLine, printed}
+use Rattle.pinlist.proofs.Listings.{refusal-few, prints-refusal, front-is, whole-next}
 use borrow.Author.Needs.{needs}
 use Rattle.pinlist.proofs.print_refusal.Statement.{statement}
 use Rattle.pinlist.proofs.print_refusal.Tie as tie
+use Rattle.pinlist.proofs.print_refusal.Reads as reads
+use Rattle.pinlist.proofs.print_refusal.Lts as lts
+use Rattle.pinlist.proofs.lines.put_refusal.Reads as put-refusal-reads
+use Rattle.pinlist.proofs.write_next.Reads as write-next-reads
 
-slice-aggregate-write-all : tie.Need-slice-aggregate-write-all
-slice-aggregate-write-all c = search needs
+-- the front of the text is the line
+line-is : (c : tie.After-put-refusal)
+    → (take (c .put-refusal .result) (c .put-refusal .last .0) ≡ refusalLine (c .before .before .before .args .number) (c .before .before .before .args .carried))
+    × (c .put-refusal .result ≤ length (c .put-refusal .last .0))
+line-is c = front-is _ (c .put-refusal .last .0) _ (c .put-refusal .result) (c .put-refusal .ensures .0) (c .put-refusal .ensures .1)
 
-write-all-requires : tie.Need-write-all-requires
-write-all-requires c κs = search needs
+-- and all that is printed
+all-is : (c : tie.After-put-refusal) → take (c .put-refusal .result) (c .put-refusal .last .0) ≡ printed (c .before .before .before .args .s .now)
+all-is c = let start = c .before .before .before in line-is c .0 ∙ sym (prints-refusal (start .args .s .now) (start .pre .0) _ _ (start .pre .1))
 
-slice-aggregate-put-line : tie.Need-slice-aggregate-put-line
-slice-aggregate-put-line c = search needs
+slice-aggregate-put-refusal : tie.Need-slice-aggregate-put-refusal
+slice-aggregate-put-refusal c = search needs
 
-put-line-requires : tie.Need-put-line-requires
-put-line-requires c κs = search needs
+put-refusal-requires : tie.Need-put-refusal-requires
+put-refusal-requires c κs = refusal-few (c .before .before .args .number) (c .before .before .args .carried)
 
 array-share-prefix-text : tie.Need-array-share-prefix-text
-array-share-prefix-text c = search needs
+array-share-prefix-text c = omega (arith, line-is (c .before) .1)
 
-slice-aggregate-write-all-2 : tie.Need-slice-aggregate-write-all-2
-slice-aggregate-write-all-2 c = simp length-take (omega arith)
+slice-aggregate-write-next : tie.Need-slice-aggregate-write-next
+slice-aggregate-write-next c = simp length-take (omega (arith, line-is (c .before .before) .1))
 
-write-all-requires-2 : tie.Need-write-all-requires-2
-write-all-requires-2 c κs = search needs
+write-next-requires : tie.Need-write-next-requires
+write-next-requires c κs = whole-next (printed (c .before .before .before .before .before .args .s .now)) _ (sym (all-is (c .before .before)))
 
 returns : tie.Need-returns
-returns c = search needs
+returns c = c .write-next .ensures ∙ zero-add _ ∙ ap length (all-is (c .before .before .before))
 
 pub print-refusal-spec : {M : Type 1} → statement M
 print-refusal-spec =
     tie.close
     (tie.spec
-    slice-aggregate-write-all
-    write-all-requires
-    slice-aggregate-put-line
-    put-line-requires
+    slice-aggregate-put-refusal
+    put-refusal-requires
     array-share-prefix-text
-    slice-aggregate-write-all-2
-    write-all-requires-2
+    slice-aggregate-write-next
+    write-next-requires
     returns)

@@ -1,0 +1,4 @@
+-- Laws that the proofs of the functions cite, each file about what its first line says.
+pub mod Decimals
+pub mod Listings
+pub mod Accesses
