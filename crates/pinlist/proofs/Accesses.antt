@@ -1,11 +1,11 @@
 -- What demand 2 says of a strip that check accepts: its pin count, and that no access is refused.
-use mathlib.Core.Path.{_≡_, refl, sym, ap, subst, _∙_}
+use mathlib.Core.Path.{_≡_, sym, ap, subst, _∙_}
 use mathlib.Core.List.{List}
 use Prim.Native.Nat.{ℕ, _≤_, _<_}
 use native.Mathlib.Omega.{arith}
 use lib.ListN.{length, getD}
 use Rattle.tree.specs.Walks.{found, toward}
-use Rattle.strip.specs.Outcomes.{gives, refuses}
+use Rattle.strip.specs.Outcomes.{gives}
 use Rattle.strip.specs.Layout.{maxPins}
 use Rattle.strip.specs.Calls.{accessOf, checkOf, plainList}
 use Rattle.strip.specs.Demands.{Accepted}
@@ -23,7 +23,7 @@ access-time s (xs, w, (out, to)) i h =
 few-pins : (s : List ℕ) → Accepted s → length (plainList s) ≤ maxPins
 few-pins s (xs, w, (out, to)) = let one = demand-2 .one-list s xs out w to in rw (← (one .1)) (one .0 .few)
 
-module _ (s : List ℕ) (n : ℕ) (e : checkOf s ≡ gives n) where
+module _ (s : List ℕ) {n : ℕ} (e : checkOf s ≡ gives n) where
   pub accepted : Accepted s
   accepted = demand-2 .accepts s .0 (n, e)
 

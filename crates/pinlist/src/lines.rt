@@ -10,7 +10,7 @@ ghost use Rattle.strip.specs.Calls.{checkOf, plainList};
 ghost use Rattle.strip.specs.Demands.{Accepted};
 ghost use Rattle.pinlist.specs.Texts.{numeral, header, line, linesFrom, mostInLine, refusalLine};
 
-// The lines of so many positions, which end before byte `end` of the text.
+// So many lines at the front of the text, and where they end.
 pub(crate) struct Piece {
     pub(crate) lines: usize,
     pub(crate) end: usize,
@@ -73,7 +73,7 @@ pub(crate) fn put_refusal(text: &mut [u8], number: usize, carried: usize) -> usi
     put_line(text, at, number, carried)
 }
 
-// The time at position i of an accepted strip. No access to it is refused; 0 stands there so that the match is whole.
+// The time at position i of an accepted strip. By demand 2 no access to it is refused; 0 stands there so that the match is whole.
 fn time_at(s: &[u8], i: usize) -> usize
     requires { ⌜ Accepted (now s) × (i < length (plainList (now s))) ⌝ }
     ensures { λ r. ⌜ r ≡ getD (plainList (now (s .entry))) i 0 ⌝ }
@@ -85,7 +85,7 @@ fn time_at(s: &[u8], i: usize) -> usize
     }
 }
 
-// Puts the lines of the positions from `first` on to the front, one at least, until all n are listed or there may be no room for one more.
+// Puts the lines from that of position `first` on to the front, one at least, until there are no more or there may be no room for another.
 pub(crate) fn put_times(text: &mut [u8], s: &[u8], first: usize, n: usize) -> Piece
     requires { ⌜ (checkOf (now s) ≡ gives n) × (first < n) × (mostInLine ≤ length (now text)) ⌝ }
     ensures { λ r. ⌜ now (text .exit) ≡ replaced (now (text .entry)) 0 (linesFrom (plainList (now (s .entry))) first (r .lines)) ⌝ }

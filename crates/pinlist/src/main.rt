@@ -18,7 +18,8 @@ ghost use Rattle.strip.specs.Outcomes.{gives, refuses};
 ghost use Rattle.strip.specs.Calls.{checkOf};
 ghost use Rattle.pinlist.specs.Texts.{mostBytes, printed};
 
-// Writes the bytes that come next in what is printed for the input s, of which `done` are written. Answers how many are written then.
+// Writes a piece of what is printed for the input s. Nothing else writes. The first `done` bytes are written, and with the piece the first
+// `done` and its length, which it answers: from 0 to the whole length, the pieces are the text. The input is passed for the contract alone.
 fn write_next(s: &[u8], done: usize, piece: &[u8]) -> usize
     requires { ⌜ take done (printed (now s)) ++ now piece ≡ take (done + length (now piece)) (printed (now s)) ⌝ }
     ensures { λ r. ⌜ r ≡ done + length (now (piece .entry)) ⌝ }
@@ -27,7 +28,7 @@ fn write_next(s: &[u8], done: usize, piece: &[u8]) -> usize
     done + piece.len()
 }
 
-// Prints the list of a strip of which check gives n, in large pieces.
+// Prints the listing of a strip of n pins, in large pieces.
 fn print_list(s: &[u8], n: usize) -> usize
     requires { ⌜ (length (now s) ≤ mostBytes) × (checkOf (now s) ≡ gives n) ⌝ }
     ensures { λ r. ⌜ r ≡ length (printed (now (s .entry))) ⌝ }

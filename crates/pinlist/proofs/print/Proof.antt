@@ -1,4 +1,4 @@
--- `print` meets its contract.
+-- `print` meets its contract: which text is printed goes by the length and then by check, as in `printed`.
 use native.Mathlib.Omega.{arith}
 use mathlib.Core.Path.{sym, ap, _∙_}
 use lib.ListN.{length}
@@ -7,14 +7,6 @@ use Rattle.pinlist.proofs.Listings.{prints-too-long}
 use borrow.Author.Needs.{needs}
 use Rattle.pinlist.proofs.print.Statement.{statement}
 use Rattle.pinlist.proofs.print.Tie as tie
-use Rattle.pinlist.proofs.print.Reads as reads
-use Rattle.pinlist.proofs.print.Lts as lts
-use Rattle.pinlist.proofs.print_list.Reads as print-list-reads
-use Rattle.pinlist.proofs.print_refusal.Reads as print-refusal-reads
-use Rattle.pinlist.proofs.write_next.Reads as write-next-reads
-use Rattle.strip.proofs.carried.Reads as carried-reads
-use Rattle.strip.proofs.number.Reads as number-reads
-use Rattle.strip.proofs.strip.Strip.check.Reads as check-reads
 
 slice-aggregate-write-next : tie.Need-slice-aggregate-write-next
 slice-aggregate-write-next c = search needs

@@ -1,4 +1,4 @@
--- `write_next` meets its contract.
+-- `write_next` meets its contract: what is written then begins the text, whose length fits 64 bits.
 use native.Mathlib.Omega.{arith}
 use mathlib.Core.Path.{ap}
 use lib.ListN.{length, length-append, length-take}
@@ -6,9 +6,6 @@ use Rattle.pinlist.proofs.Listings.{printed-short}
 use borrow.Author.Needs.{needs}
 use Rattle.pinlist.proofs.write_next.Statement.{statement}
 use Rattle.pinlist.proofs.write_next.Tie as tie
-use Rattle.pinlist.proofs.write_next.Reads as reads
-use Rattle.pinlist.proofs.write_next.Lts as lts
-use Rattle.io.proofs.write_all.Reads as write-all-reads
 
 write-all-requires : tie.Need-write-all-requires
 write-all-requires c κs = search needs

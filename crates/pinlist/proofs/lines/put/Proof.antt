@@ -1,15 +1,12 @@
--- `lines/put` meets its contract.
+-- `put` meets its contract: after i turns the first i bytes are pasted into the text.
 use native.Mathlib.Omega.{arith}
-use mathlib.Core.Path.{_≡_, refl, sym, ap, _∙_}
+use mathlib.Core.Path.{_≡_, refl, _∙_}
 use Prim.Native.Nat.{_+_, _-_, _<_, _≤_}
 use native.Mathlib.Numerals.{add-one}
 use lib.ListN.{length, length-set}
 use lib.Seq.{paste, paste-zero, paste-suc, take-length}
-
 use Rattle.pinlist.proofs.lines.put.Statement.{statement}
 use Rattle.pinlist.proofs.lines.put.Tie as tie
-use Rattle.pinlist.proofs.lines.put.Reads as reads
-use Rattle.pinlist.proofs.lines.put.Lts as lts
 
 abbrev Inv-loop : tie.InvT-loop
 Inv-loop text₀ at bytes i₀ text i = (i ≤ length bytes) × (length text ≡ length text₀) × (text ≡ paste text₀ at bytes i)
@@ -40,8 +37,7 @@ loop-again c =
     let a = c .before .before .before .args in
     let l = c .before .before .loop in
     let h : a .at + l .i < length (a .text .now) = omega arith in
-    let k : l .i < length (a .bytes .now) = omega arith in
-    (
+    let k : l .i < length (a .bytes .now) = omega arith in (
       omega arith,
       simp length-set (omega arith),
       rw (l .inv .2, paste-suc (a .text .now) (a .at) (a .bytes .now) (l .i) 0, add-one),

@@ -1,17 +1,11 @@
--- `lines/put_header` meets its contract.
+-- `put_header` meets its contract: the numeral is put where `pins ` ends.
 use native.Mathlib.Omega.{arith}
-use mathlib.Core.Path.{refl, sym}
 use Prim.Native.Char.{code}
-use lib.ListN.{length, length-append}
 use Rattle.pinlist.specs.Texts.{ascii, numeral, header}
-use Rattle.pinlist.proofs.Listings.{puts-on}
+use Rattle.pinlist.proofs.Pieces.{puts-on}
 use borrow.Author.Needs.{needs}
 use Rattle.pinlist.proofs.lines.put_header.Statement.{statement}
 use Rattle.pinlist.proofs.lines.put_header.Tie as tie
-use Rattle.pinlist.proofs.lines.put_header.Reads as reads
-use Rattle.pinlist.proofs.lines.put_header.Lts as lts
-use Rattle.pinlist.proofs.lines.put.Reads as put-reads
-use Rattle.pinlist.proofs.lines.put_number.Reads as put-number-reads
 
 slice-aggregate-put : tie.Need-slice-aggregate-put
 slice-aggregate-put c = search needs
@@ -32,10 +26,9 @@ unfolding header
 returns c =
     let second = c .before .before in
     let first = second .before .before .before .before in
-    let start = first .before .before .before .before in
-    let a = start .args in
-    let both = puts-on (a .text .now) (first .put .last .0) (second .put-number .last .0) (ascii "pins ") (numeral (a .n) (code "\n")) 0 (first .put .result)
-        (second .put-number .result) (first .put .ensures .0) (first .put .ensures .1) (second .put-number .ensures .0) (second .put-number .ensures .1) (omega arith) in
+    let a = first .before .before .before .before .args in
+    let both = puts-on (a .text .now) (ascii "pins ") (numeral (a .n) (code "\n")) 0 (first .put .ensures .0) (first .put .ensures .1)
+    (second .put-number .ensures .0) (second .put-number .ensures .1) (omega arith) in
     (both .0, omega (arith, both .1))
 
 pub put-header-spec : {M : Type 1} → statement M

@@ -1,4 +1,5 @@
--- `lines/put_number` meets its contract.
+-- `put_number` meets its contract: `io::decimal` gives the fewest digits that hold the number, which are those of `decimal`, and the byte is
+-- put after them.
 use native.Mathlib.Omega.{arith}
 use mathlib.Core.Path.{_≡_, sym, ap, _∙_}
 use mathlib.Core.List.{[], _∷_}
@@ -11,24 +12,25 @@ use Rattle.pinlist.proofs.Decimals.{digits-decimal}
 use borrow.Author.Needs.{needs}
 use Rattle.pinlist.proofs.lines.put_number.Statement.{statement}
 use Rattle.pinlist.proofs.lines.put_number.Tie as tie
-use Rattle.pinlist.proofs.lines.put_number.Reads as reads
-use Rattle.pinlist.proofs.lines.put_number.Lts as lts
-use Rattle.io.proofs.decimal.Reads as decimal-reads
-use Rattle.pinlist.proofs.lines.put.Reads as put-reads
 
 -- the digits put are the number in decimal
-digits-are : (c : tie.After-digits2) → take (c .before .before .decimal .result) (c .before .before .decimal .last .1 .0) ≡ decimal (c .before .before .before .before .before .args .x)
-digits-are c =
-    let d = c .before .before .decimal in
-    d .ensures .1 .1 ∙ digits-decimal _ (d .result) (c .before .before .before .before .before .fits .x .fits) (d .ensures .1 .0)
+digits-are : (c : tie.After-decimal) → take (c .decimal .result) (c .decimal .last .1 .0) ≡ decimal (c .before .before .before .args .x)
+digits-are c = c .decimal .ensures .1 .1 ∙ digits-decimal _ (c .decimal .result) (c .before .before .before .fits .x .fits) (c .decimal .ensures .1 .0)
 
--- and they end a byte before the numeral does
+-- so they end where it does
+digits-end : (c : tie.After-put)
+    → let a = c .before .before .before .before .before .before .args in
+    a .at + length (decimal (a .x)) ≡ c .put .result
+digits-end c = sym (rw (digits-are (c .before .before .before)) at (c .put .ensures .1))
+
+-- a byte before the numeral
 ends : (c : tie.After-put)
-    → let a = c .before .before .before .before .before .before .args in a .at + length (numeral (a .x) (a .after)) ≡ c .put .result + 1
+    → let a = c .before .before .before .before .before .before .args in
+    c .put .result + 1 ≡ a .at + length (numeral (a .x) (a .after))
 unfolding numeral
 ends c =
     let a = c .before .before .before .before .before .before .args in
-    rw (length-append (decimal (a .x)) (a .after ∷ [])) (omega (arith, rw (digits-are (c .before)) at (c .put .ensures .1)))
+    rw (length-append (decimal (a .x)) (a .after ∷ [])) (omega (arith, digits-end c))
 
 decimal-requires : tie.Need-decimal-requires
 decimal-requires c κs = search needs
@@ -43,7 +45,7 @@ put-requires : tie.Need-put-requires
 unfolding numeral
 put-requires c κs =
     let start = c .before .before .before .before .before in
-    rw (digits-are c) (omega (arith, simp length-append at (start .pre)))
+    rw (digits-are (c .before .before)) (omega (arith, simp length-append at (start .pre)))
 
 slice-write-text : tie.Need-slice-write-text
 slice-write-text c = omega (arith, ends (c .before .before))
@@ -59,13 +61,11 @@ unfolding numeral
 returns c =
     let p = c .before .before in
     let a = p .before .before .before .before .before .before .args in
-    let put-digits : p .put .last .0 ≡ replaced (a .text .now) (a .at) (decimal (a .x)) = p .put .ensures .0 ∙ ap (replaced (a .text .now) (a .at)) (digits-are (p .before)) in
-    let end : a .at + length (decimal (a .x)) ≡ p .put .result = sym (rw (digits-are (p .before)) at (p .put .ensures .1)) in
-    (
-      rw put-digits
-      (sym (replaced-none _ (p .put .result + 1))
-      ∙ replaced-around (a .text .now) (a .at) (p .put .result) (decimal (a .x)) (a .after) [] end (omega (arith, ends p))),
-      sym (ends p),
+    let digits = p .put .ensures .0 ∙ ap (replaced (a .text .now) (a .at)) (digits-are (p .before .before .before)) in (
+      rw digits
+          (sym (replaced-none _ (p .put .result + 1))
+          ∙ replaced-around (a .text .now) (a .at) (p .put .result) (decimal (a .x)) (a .after) [] (digits-end p) (omega (arith, ends p))),
+      ends p,
     )
 
 pub put-number-spec : {M : Type 1} → statement M

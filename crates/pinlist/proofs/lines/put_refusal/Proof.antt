@@ -1,17 +1,10 @@
--- `lines/put_refusal` meets its contract.
+-- `put_refusal` meets its contract: the line is put where `refused ` ends.
 use native.Mathlib.Omega.{arith}
-use mathlib.Core.Path.{_≡_, _∙_}
 use Rattle.pinlist.specs.Texts.{ascii, line, refusalLine}
-use Rattle.pinlist.proofs.Listings.{puts-on}
+use Rattle.pinlist.proofs.Pieces.{puts-on}
 use borrow.Author.Needs.{needs}
 use Rattle.pinlist.proofs.lines.put_refusal.Statement.{statement}
 use Rattle.pinlist.proofs.lines.put_refusal.Tie as tie
-use Rattle.pinlist.proofs.lines.put_refusal.Reads as reads
-use Rattle.pinlist.proofs.lines.put_refusal.Lts as lts
-use Rattle.pinlist.proofs.lines.put.Reads as put-reads
-use Rattle.pinlist.proofs.lines.put_line.Reads as put-line-reads
-use Rattle.strip.proofs.carried.Reads as carried-reads
-use Rattle.strip.proofs.number.Reads as number-reads
 
 slice-aggregate-put : tie.Need-slice-aggregate-put
 slice-aggregate-put c = search needs
@@ -33,8 +26,8 @@ returns c =
     let second = c .before .before in
     let first = second .before .before .before .before in
     let a = first .before .before .before .before .args in
-    let both = puts-on (a .text .now) (first .put .last .0) (second .put-line .last .0) (ascii "refused ") (line (a .number) (a .carried)) 0 (first .put .result)
-        (second .put-line .result) (first .put .ensures .0) (first .put .ensures .1) (second .put-line .ensures .0) (second .put-line .ensures .1) (omega arith) in
+    let both = puts-on (a .text .now) (ascii "refused ") (line (a .number) (a .carried)) 0 (first .put .ensures .0) (first .put .ensures .1)
+    (second .put-line .ensures .0) (second .put-line .ensures .1) (omega arith) in
     (both .0, omega (arith, both .1))
 
 pub put-refusal-spec : {M : Type 1} → statement M

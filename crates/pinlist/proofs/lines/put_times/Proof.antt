@@ -1,4 +1,5 @@
--- `lines/put_times` meets its contract.
+-- `put_times` meets its contract: after k turns the lines of the first k positions stand at the front. Where there may be no room for one
+-- more, k is not 0, since the text is longer than a line.
 use native.Mathlib.Omega.{arith}
 use mathlib.Core.Path.{_≡_, refl, sym, _∙_}
 use Prim.Native.Nat.{_+_, _-_, _≤_}
@@ -10,13 +11,10 @@ use Rattle.tree.proofs.Buffers.{replaced-none}
 use Rattle.strip.specs.Calls.{plainList}
 use Rattle.pinlist.specs.Texts.{line, linesFrom}
 use Rattle.pinlist.proofs.Accesses.{accepted, pins-are}
-use Rattle.pinlist.proofs.Listings.{line-few, lines-few, one-more, puts-on}
+use Rattle.pinlist.proofs.Listings.{line-few, lines-few, line-more}
+use Rattle.pinlist.proofs.Pieces.{puts-on}
 use Rattle.pinlist.proofs.lines.put_times.Statement.{statement}
 use Rattle.pinlist.proofs.lines.put_times.Tie as tie
-use Rattle.pinlist.proofs.lines.put_times.Reads as reads
-use Rattle.pinlist.proofs.lines.put_times.Lts as lts
-use Rattle.pinlist.proofs.lines.put_line.Reads as put-line-reads
-use Rattle.pinlist.proofs.lines.time_at.Reads as time-at-reads
 
 abbrev Inv-loop : tie.InvT-loop
 Inv-loop text₀ s first n end₀ k₀ text end k =
@@ -46,10 +44,12 @@ time-at-requires : tie.Need-time-at-requires Inv-loop μ-loop
 time-at-requires c κs =
     let start = c .before .before .before .before .before .before in
     let e = start .pre .0 in
-    (accepted (start .args .s .now) (start .args .n) e, omega (arith, pins-are (start .args .s .now) (start .args .n) e))
+    (accepted (start .args .s .now) e, omega (arith, pins-are (start .args .s .now) e))
 
 put-line-requires : tie.Need-put-line-requires Inv-loop μ-loop
-put-line-requires c κs = omega (arith, leb-true, line-few (c .before .before .before .before .before .before .before .args .first + c .before .before .before .before .loop .k) (c .time-at .result))
+put-line-requires c κs =
+    let at = c .before .before .before .before in
+    omega (arith, leb-true, line-few (at .before .before .before .args .first + at .loop .k) (c .time-at .result))
 
 add-k : tie.Need-add-k Inv-loop μ-loop
 add-k c = omega arith
@@ -64,10 +64,15 @@ loop-again c =
     let a = p .before .before .before .before .before .before .before .before .args in
     let xs = plainList (a .s .now) in
     let q = line (a .first + l .k) (getD xs (a .first + l .k) 0) in
-    let both = puts-on (a .text .now) (l .text) (p .put-line .last .0) (linesFrom xs (a .first) (l .k)) q 0 (l .end) (p .put-line .result)
-        (l .inv .4) (omega arith) (p .put-line .ensures .0 ∙ rw (p .before .time-at .ensures)) (p .put-line .ensures .1 ∙ rw (p .before .time-at .ensures)) (omega arith) in
-    let more = one-more xs (a .first) (l .k) in
-    (omega arith, omega arith, omega (arith, leb-true, line-few (a .first + l .k) (p .before .time-at .result)), rw more (both .1 ∙ zero-add _), rw more (both .0))
+    let both = puts-on (a .text .now) (linesFrom xs (a .first) (l .k)) q 0 (l .inv .4) (l .inv .3 ∙ sym (zero-add _))
+    (p .put-line .ensures .0 ∙ rw (p .before .time-at .ensures)) (p .put-line .ensures .1 ∙ rw (p .before .time-at .ensures)) (omega arith) in
+    let more = line-more xs (a .first) (l .k) in (
+      omega arith,
+      omega arith,
+      omega (arith, leb-true, line-few (a .first + l .k) (p .before .time-at .result)),
+      rw more (both .1 ∙ zero-add _),
+      rw more (both .0),
+    )
 
 same-length : tie.Need-same-length Inv-loop μ-loop
 same-length c = omega arith

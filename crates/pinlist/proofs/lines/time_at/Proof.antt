@@ -1,22 +1,25 @@
--- `lines/time_at` meets its contract.
+-- `time_at` meets its contract: on an accepted strip access gives time i and is not refused.
 use native.Mathlib.Omega.{arith}
 use mathlib.Core.Path.{_≡_, sym, ap, _∙_}
 use Prim.Native.Nat.{ℕ}
-use Rattle.tree.specs.Walks.{found, stopped}
-use Rattle.strip.specs.Calls.{accessed}
+use lib.ListN.{length, getD}
+use Rattle.tree.specs.Walks.{found, stopped, toward}
+use Rattle.strip.specs.Calls.{accessed, plainList}
 use Rattle.pinlist.proofs.Accesses.{access-time}
 use borrow.Author.Needs.{needs}
 use Rattle.pinlist.proofs.lines.time_at.Statement.{statement}
 use Rattle.pinlist.proofs.lines.time_at.Tie as tie
-use Rattle.pinlist.proofs.lines.time_at.Reads as reads
-use Rattle.pinlist.proofs.lines.time_at.Lts as lts
-use Rattle.strip.proofs.strip.Strip.access.Reads as access-reads
 
 time-is : {t k x m : ℕ} → found t k ≡ found x m → t ≡ x
 time-is e = cc
 
 not-refused : {r c x m : ℕ} → stopped r c ≡ found x m → ⊥
 not-refused e = let z : _≡_ {A = ℕ} 0 1 = cc in omega arith
+
+access-is : (c : tie.After-access)
+    → let a = c .before .before .args in
+    accessed (c .access .result) ≡ found (getD (plainList (a .s .now)) (a .i) 0) (length (toward (length (plainList (a .s .now))) (a .i)))
+access-is c = let start = c .before .before in c .access .ensures ∙ access-time (start .args .s .now) (start .pre .0) (start .args .i) (start .pre .1)
 
 access-requires : tie.Need-access-requires
 access-requires c κs = search needs
@@ -31,16 +34,10 @@ enum-told : tie.Need-enum-told
 enum-told c = search needs
 
 returns : tie.Need-returns
-returns c =
-    let b = c .before .before .before in
-    let a = b .before .before .args in
-    time-is (ap accessed (sym (c .before .accessed .given .1)) ∙ b .access .ensures ∙ access-time (a .s .now) (b .before .before .pre .0) (a .i) (b .before .before .pre .1))
+returns c = time-is (ap accessed (sym (c .before .accessed .given .1)) ∙ access-is (c .before .before .before))
 
 returns-2 : tie.Need-returns-2
-returns-2 c =
-    let b = c .before .before in
-    let a = b .before .before .args in
-    absurd (not-refused (ap accessed (sym (c .enum-told .given .1)) ∙ b .access .ensures ∙ access-time (a .s .now) (b .before .before .pre .0) (a .i) (b .before .before .pre .1)))
+returns-2 c = absurd (not-refused (ap accessed (sym (c .enum-told .given .1)) ∙ access-is (c .before .before)))
 
 pub time-at-spec : {M : Type 1} → statement M
 time-at-spec =
