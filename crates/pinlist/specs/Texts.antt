@@ -32,7 +32,7 @@ numeral x after = decimal x ++ after ∷ []
 unfoldable pub header : ℕ → List ℕ
 header n = ascii "pins " ++ numeral n (code "\n")
 
--- a line of position and time
+-- a line of two numbers, as position and time
 unfoldable pub line : ℕ → ℕ → List ℕ
 line x y = numeral x (code " ") ++ numeral y (code "\n")
 

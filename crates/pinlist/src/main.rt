@@ -18,8 +18,8 @@ ghost use Rattle.strip.specs.Outcomes.{gives, refuses};
 ghost use Rattle.strip.specs.Calls.{checkOf};
 ghost use Rattle.pinlist.specs.Texts.{mostBytes, printed};
 
-// Writes a piece of what is printed for the input s. Nothing else writes. The first `done` bytes are written, and with the piece the first
-// `done` and its length, which it answers: from 0 to the whole length, the pieces are the text. The input is passed for the contract alone.
+// Writes the piece that comes next in what is printed for the input s, whose first `done` bytes are written, and answers how many are then.
+// Nothing else writes: the pieces from 0 to the length that `print` answers are the whole text. The input serves the contract alone.
 fn write_next(s: &[u8], done: usize, piece: &[u8]) -> usize
     requires { ⌜ take done (printed (now s)) ++ now piece ≡ take (done + length (now piece)) (printed (now s)) ⌝ }
     ensures { λ r. ⌜ r ≡ done + length (now (piece .entry)) ⌝ }
@@ -47,7 +47,7 @@ fn print_list(s: &[u8], n: usize) -> usize
     done
 }
 
-// Prints the refusal of a check.
+// Prints the line of a refused check, which has 50 bytes at most.
 fn print_refusal(s: &[u8], number: usize, carried: usize) -> usize
     requires { ⌜ (length (now s) ≤ mostBytes) × (checkOf (now s) ≡ refuses number carried) ⌝ }
     ensures { λ r. ⌜ r ≡ length (printed (now (s .entry))) ⌝ }
@@ -57,7 +57,7 @@ fn print_refusal(s: &[u8], number: usize, carried: usize) -> usize
     write_next(s, 0, &text[..end])
 }
 
-// Prints what is printed for the input s. Answers how many bytes that is.
+// Prints all of it, and answers how many bytes that is.
 fn print(s: &[u8]) -> usize
     ensures { λ r. ⌜ r ≡ length (printed (now (s .entry))) ⌝ }
 {
@@ -71,7 +71,7 @@ fn print(s: &[u8]) -> usize
     }
 }
 
-// A strip of at most 65,536 bytes is read. One byte more tells that the input is longer.
+// A strip of at most 65,536 bytes is read. One byte more tells that the input is longer (`ReadsEnough` in specs/Promises).
 fn main() {
     let mut bytes = [0u8; 65537];
     let n = io::read_full(STDIN_FILENO, &mut bytes);
