@@ -18,16 +18,14 @@ pub(crate) struct Radix {
     pub(crate) power: u64,
 }
 
-const POWERS: [u64; 9] = [1, 2, 4, 8, 16, 32, 64, 128, 256];
-
-// The power comes from a table, since the compiler makes slow shifts of products and comparisons with a computed one.
+// The radix for chunks of `b` bits. A product with the power is faster than a shift by the width.
 pub(crate) fn radix_of(b: usize) -> Radix
     requires { ⌜ b ≤ 8 ⌝ }
     ensures { λ r. ⌜ (r .bits ≡ b) × IsRadix r ⌝ }
 {
     Radix {
         bits: b,
-        power: POWERS[b],
+        power: 1u64 << b,
     }
 }
 
