@@ -1,4 +1,4 @@
--- `level_choose` meets its contract: a code of width 32 holds the values, so the chosen size is at most 32 bits for each.
+-- A code of width 32 holds the values, so the chosen size is at most 32 bits for each.
 use native.Mathlib.Omega.{arith}
 use borrow.Author.Needs.{needs}
 use mathlib.Core.Path.{ap}

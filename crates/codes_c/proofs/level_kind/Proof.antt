@@ -1,4 +1,4 @@
--- `level_kind` meets its contract.
+-- `kind_of` gives the kind, and each branch its number; a width is at most 32 and a chunk has at most 8 bits, so the number fits.
 use native.Mathlib.Omega.{arith}
 use borrow.Author.Needs.{needs}
 use mathlib.Core.Path.{sym, ap, _∙_}

@@ -1,4 +1,4 @@
--- `best_chunked` meets its contract: code and size are those of the best code so far.
+-- Code and size are those of the best code so far.
 use native.Mathlib.Omega.{arith}
 use mathlib.Core.Path.{_≡_, refl}
 use mathlib.Core.List.{List}

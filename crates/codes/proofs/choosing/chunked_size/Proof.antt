@@ -1,4 +1,4 @@
--- `chunked_size` meets its contract: what the chunks counted take and the code of the values from bit s on make the whole.
+-- What the chunks counted take and the code of the values from bit s on make the whole.
 use mathlib.Core.Path.{_≡_, sym}
 use mathlib.Core.List.{List}
 use Prim.Native.Nat.{ℕ, _+_, _-_, _*_, _^_, _≤_, _<_}

@@ -1,4 +1,4 @@
--- `fixed` meets its contract.
+-- A width of at most 32 fits a byte, and fewer than 2^32 values of that width take fewer than 2^37 bits.
 use native.Mathlib.Omega.{arith}
 use native.Mathlib.Nat.{mul-le-mul-left}
 use borrow.Author.Needs.{needs}

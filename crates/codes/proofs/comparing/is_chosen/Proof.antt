@@ -1,4 +1,5 @@
--- `is_chosen` meets its contract.
+-- Where code or length is not the chosen one, neither is the part. Else a part decoded to the values is what encode writes for them just
+-- where the bits after theirs are 0, which `zeros_after` tells.
 use borrow.Author.Needs.{needs}
 use native.Mathlib.Omega.{arith}
 use mathlib.Core.Path.{_≡_, sym, ap, _∙_}

@@ -1,4 +1,4 @@
--- `zeros_after` meets its contract.
+-- The bits after the first `size` are the lowest of the last byte, and `low_bits` has their number; an empty part has none.
 use borrow.Author.Needs.{needs}
 use native.Mathlib.Omega.{arith}
 use mathlib.Core.Path.{_≡_, refl, sym}

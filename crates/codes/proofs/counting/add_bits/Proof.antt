@@ -1,4 +1,4 @@
--- `add_bits` meets its contract.
+-- In each place the parity of three bits is the low bit of their sum and the carry its high bit (`ones-added`).
 use native.Mathlib.Omega.{arith}
 use Rattle.codes.proofs.Streams.{ones-added}
 use Rattle.codes.proofs.counting.add_bits.Statement.{statement}

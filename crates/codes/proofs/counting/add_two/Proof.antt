@@ -1,4 +1,4 @@
--- `add_two` meets its contract.
+-- The two words have what two streams have in one turn, and `add_bits` adds their ones to those of `a`.
 use Rattle.codes.proofs.Streams.{two-words}
 use native.Mathlib.Omega.{arith}
 use borrow.Author.Needs.{needs}

@@ -1,4 +1,4 @@
--- `ones_at` meets its contract.
+-- The ones of the number that `read` gives are those of its bits (`ones-part`); of no bits there are none.
 use native.Mathlib.Omega.{arith}
 use mathlib.Core.Path.{refl, ap, _∙_}
 use lib.Count.{ones}

@@ -1,4 +1,4 @@
--- `ones_half` meets its contract.
+-- Four bytes make a number below 2^32, and in either order it has the ones of their bits (`ones-reversed`).
 use native.Mathlib.Omega.{arith}
 use mathlib.Core.Path.{_≡_, ap, _∙_}
 use Prim.Native.Nat.{_+_}

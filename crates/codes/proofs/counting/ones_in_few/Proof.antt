@@ -1,4 +1,4 @@
--- `ones_in_few` meets its contract.
+-- After i turns `count` is the number of ones in the first i words, at most 64 for each.
 use borrow.Author.Needs.{needs}
 use mathlib.Core.Path.{_≡_, refl}
 use Prim.Native.Nat.{_≤_, _*_, _-_, _+_}

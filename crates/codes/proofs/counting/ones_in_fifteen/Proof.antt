@@ -1,4 +1,4 @@
--- `ones_in_fifteen` meets its contract.
+-- Each of the eleven additions keeps the weighted count of ones, so the four words left, by 1, 2, 4 and 8, have those of all fifteen.
 use native.Mathlib.Omega.{arith}
 use Rattle.codes.proofs.Streams.{fifteen-words}
 use borrow.Author.Needs.{needs}

@@ -1,4 +1,5 @@
--- `ones_in_streams` meets its contract.
+-- After i turns `count` has the first i words of each of the fifteen streams. A stream has `turns` words, so the next begins where it ends,
+-- and together they are all the words.
 use native.Mathlib.Omega.{arith}
 use mathlib.Core.Path.{_≡_, _∙_}
 use Prim.Native.Nat.{_≤_, _*_, _-_}

@@ -1,4 +1,4 @@
--- `ones_in_words` meets its contract.
+-- Fewer than 30 words are counted one by one. Of more, the streams count a multiple of 30, and the words left begin where these end.
 use native.Mathlib.Omega.{arith}
 use mathlib.Core.Path.{_≡_}
 use Prim.Native.Nat.{_+_, _*_, _/_, _%_}

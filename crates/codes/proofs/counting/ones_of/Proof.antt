@@ -1,4 +1,4 @@
--- `ones_of` meets its contract.
+-- A word of 64 bits has at most 64 ones, so the cast is exact; `u64::count_ones` gives `ones` itself.
 use mathlib.Core.Path.{refl}
 use native.Mathlib.Omega.{arith}
 use lib.Count.{ones-le}

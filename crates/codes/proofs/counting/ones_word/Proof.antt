@@ -1,4 +1,4 @@
--- `ones_word` meets its contract.
+-- The first half is below 2^32, so the second, times 2^32, stands above it and the ones of both add up.
 use native.Mathlib.Omega.{arith}
 use mathlib.Core.Path.{_≡_, ap, _∙_}
 use Prim.Native.Nat.{_+_, _*_, _^_}

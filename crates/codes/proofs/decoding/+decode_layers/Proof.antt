@@ -1,4 +1,5 @@
--- `decode_layers` meets its contract.
+-- The measure is `layers`, one less for the layers after, whose values are as many as the ones counted. Where these are decoded and small
+-- `merge` has the layer's values; where a test fails, `decodedLayers` has none, either.
 use native.Mathlib.Omega.{arith}
 use mathlib.Core.Path.{_≡_, refl, sym, _∙_}
 use Prim.Native.Nat.{ℕ, suc, _+_, _-_, _*_, _^_, _<_}

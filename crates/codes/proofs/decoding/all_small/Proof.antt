@@ -1,4 +1,4 @@
--- `all_small` meets its contract.
+-- `joined` is below 2^(32 - b) just where each value so far and one less of it is; one less of 0 wraps to all 32 bits, so a 0 is told, too.
 use native.Mathlib.Omega.{arith}
 use mathlib.Core.Path.{_≡_, refl, sym, _∙_}
 use mathlib.Core.Bool.{Bool, true, false}

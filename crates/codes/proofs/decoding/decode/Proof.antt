@@ -1,4 +1,4 @@
--- `decode` meets its contract.
+-- What `decode_kind` answers tells whether the level is decoded; where it is not, `clear` makes every entry 0.
 use mathlib.Core.Path.{refl, ap, _∙_}
 use mathlib.Core.List.{List, _++_, append-nil}
 use Prim.Native.Nat.{ℕ}

@@ -1,4 +1,4 @@
--- `decode_fixed` meets its contract.
+-- The part has too few bits, or all values: zeros for width 0, else by fours, twos and ones, each from where the one before ends.
 use native.Mathlib.Omega.{arith}
 use borrow.Author.Needs.{needs}
 use mathlib.Core.Path.{_≡_, refl, sym, ap, _∙_}

@@ -1,4 +1,5 @@
--- `decode_fours` meets its contract.
+-- Before each turn the first i values are the part's. One read has the next four, of at most 14 bits each: `put_two` takes the first two
+-- from it shifted by 2w, and the last two from it as it is.
 use native.Mathlib.Omega.{arith}
 use mathlib.Core.Path.{_≡_, refl}
 use Prim.Native.Nat.{_+_, _-_, _*_, _%_, _≤_}

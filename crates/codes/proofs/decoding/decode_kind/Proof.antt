@@ -1,4 +1,4 @@
--- `decode_kind` meets its contract.
+-- The kind decides, as in `kindDecoded`; by what `kind_of` tells a width is at most 32 and a chunk has 1 to 8 bits, as the decoders ask.
 use native.Mathlib.Omega.{arith}
 use mathlib.Core.Path.{_≡_, refl, sym, _∙_}
 use lib.ListN.{length}

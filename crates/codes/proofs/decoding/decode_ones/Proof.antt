@@ -1,4 +1,4 @@
--- `decode_ones` meets its contract.
+-- Before each turn the first i values are the part's, and `read` has the next, of at most 32 bits.
 use native.Mathlib.Omega.{arith}
 use Prim.Native.Nat.{_+_, _-_, _≤_}
 use mathlib.Core.Path.{_≡_, refl, _∙_}

@@ -1,4 +1,4 @@
--- `decode_twos` meets its contract.
+-- Before each turn the first i values are the part's. One read has the next two, of at most 28 bits each, and `put_two` writes them.
 use native.Mathlib.Omega.{arith}
 use mathlib.Core.Path.{_≡_, refl}
 use Prim.Native.Nat.{_+_, _-_, _%_, _≤_}

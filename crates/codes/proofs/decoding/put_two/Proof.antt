@@ -1,4 +1,4 @@
--- `put_two` meets its contract.
+-- The w lowest bits of x are value i + 1 and the w above them value i, so each write adds one to the values that are the part's.
 use native.Mathlib.Omega.{arith}
 use borrow.Author.Needs.{needs}
 use mathlib.Core.Path.{_≡_, _∙_}

@@ -1,4 +1,4 @@
--- `clear` meets its contract.
+-- After i turns the first i entries are 0 and the others as they were.
 use native.Mathlib.Omega.{arith}
 use mathlib.Core.Path.{_≡_, refl, _∙_}
 use mathlib.Core.List.{_++_}

@@ -1,4 +1,4 @@
--- `copy_values` meets its contract.
+-- After i turns the first i entries are the first i values and the others as they were.
 use native.Mathlib.Omega.{arith}
 use mathlib.Core.Path.{_≡_, refl, _∙_}
 use mathlib.Core.List.{_++_}

@@ -1,4 +1,4 @@
--- `encode` meets its contract: the bits of the code are written from the front, and finished.
+-- The bits of the code are written from the front, and finished.
 use native.Mathlib.Omega.{arith}
 use mathlib.Core.Path.{_≡_, refl, sym, ap, _∙_}
 use lib.ListN.{length, take, drop}

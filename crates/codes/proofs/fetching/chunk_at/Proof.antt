@@ -1,4 +1,4 @@
--- `chunk_at` meets its contract.
+-- What `read` gives is below 2^b, and b + shift is at most 40, so the shift loses no bit.
 use native.Mathlib.Omega.{arith}
 use Prim.Native.Nat.{_+_}
 use native.Mathlib.Nat.{lt-of-lt-of-le}

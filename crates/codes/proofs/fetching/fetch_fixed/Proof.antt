@@ -1,4 +1,4 @@
--- `fetch_fixed` meets its contract.
+-- Of width 0 every value is 0. Of another, an index past the part's bits has its last bit past them as well; what ends in the part is read.
 use native.Mathlib.Omega.{arith}
 use mathlib.Core.Path.{sym, ap, _∙_}
 use Prim.Native.Nat.{_+_}

@@ -1,4 +1,4 @@
--- `kind_of` meets its contract.
+-- Each range of the match is a range of `kindOf`; the last branch has two, the codes from 33 to 64 and those above 72.
 use native.Mathlib.Omega.{arith}
 use mathlib.Core.Path.{sym}
 use Rattle.codes.proofs.CodeByte.{kind-fixed, kind-chunked, kind-between, kind-above}

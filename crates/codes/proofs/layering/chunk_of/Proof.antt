@@ -1,4 +1,4 @@
--- `chunk_of` meets its contract.
+-- The power is 2^b, and one less is the mask of the b lowest bits, which leaves the remainder.
 use native.Mathlib.Omega.{arith}
 use borrow.Author.Needs.{needs}
 use lib.Bits.{and-mask}

@@ -1,4 +1,4 @@
--- `continuation_bit` meets its contract.
+-- v is below 2^b just where v / 2^b is 0, and then no chunk follows the lowest.
 use native.Mathlib.Omega.{arith}
 use borrow.Author.Needs.{needs}
 use Prim.Native.Nat.{_/_, _^_, _≤_, _<_}

@@ -1,4 +1,5 @@
--- `joined_chunks` meets its contract.
+-- After i turns `joined` spells the chunks of i values, and what these have above follows the `left` in front. It is stored no further than
+-- at the value just read, so those not read yet are as they were.
 use native.Mathlib.Omega.{arith}
 use mathlib.Core.Path.{_≡_, refl, sym, _∙_}
 use mathlib.Core.List.{List, _++_, append-nil}

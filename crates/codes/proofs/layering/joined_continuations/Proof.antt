@@ -1,4 +1,4 @@
--- `joined_continuations` meets its contract.
+-- After i turns `joined` is the number that the continuation bits of i values spell; of at most 32 bits it stays below 2^32.
 use native.Mathlib.Omega.{arith}
 use mathlib.Core.Path.{_≡_, refl}
 use Prim.Native.Nat.{_+_, _-_, _^_, _≤_, _<_}

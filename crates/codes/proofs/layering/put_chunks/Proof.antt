@@ -1,4 +1,5 @@
--- `put_chunks` meets its contract.
+-- Before each turn the lowest chunks of the first i values are written and what these values have above stands at the front; the values
+-- from i on are as they were.
 use native.Mathlib.Omega.{arith}
 use mathlib.Core.Path.{_≡_, refl}
 use Prim.Native.Nat.{ℕ, _+_, _-_, _*_, _/_, _≤_, _<_}

@@ -1,4 +1,4 @@
--- `put_continuations` meets its contract.
+-- Before each turn the continuation bits of the first i values are written; a turn puts up to 32 more, as the number that they spell.
 use native.Mathlib.Omega.{arith}
 use mathlib.Core.Path.{_≡_}
 use Prim.Native.Nat.{_-_, _≤_, _<_}

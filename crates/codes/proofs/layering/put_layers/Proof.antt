@@ -1,4 +1,4 @@
--- `put_layers` meets its contract: what is written and the code of the values left make the whole code; the values left, with their sum, get less.
+-- What is written and the code of the values left make the whole code; the values left, with their sum, get less.
 use native.Mathlib.Omega.{arith}
 use mathlib.Core.Path.{_≡_, refl, _∙_}
 use mathlib.Core.List.{List, [], _++_, append-nil}

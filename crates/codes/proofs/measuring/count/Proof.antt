@@ -1,4 +1,4 @@
--- `count` meets its contract.
+-- A 32-bit value has at most 32 leading zeros, so they tell one of the 33 entries, the one whose tally the value adds to.
 use native.Mathlib.Omega.{arith}
 use mathlib.Core.Path.{_∙_}
 use lib.Count.{leadingZeros}

@@ -1,4 +1,4 @@
--- `measure` meets its contract: each array has the tallies of the values passed in its quarter.
+-- Each array has the tallies of the values passed in its quarter.
 use native.Mathlib.Omega.{arith}
 use mathlib.Core.Path.{_≡_}
 use mathlib.Core.List.{List}

@@ -1,4 +1,4 @@
--- `sums` meets its contract: from t on each entry counts the values with more bits, and the next one down adds those of width t.
+-- From t on each entry counts the values with more bits, and the next one down adds those of width t.
 use native.Mathlib.Omega.{arith}
 use mathlib.Core.Path.{_≡_, sym, ap, _∙_}
 use mathlib.Core.List.{List}

@@ -1,4 +1,4 @@
--- `tally_first` meets its contract.
+-- After i turns each entry is the tally of the first i values; it is at most i, so one more fits.
 use native.Mathlib.Omega.{arith}
 use mathlib.Core.Path.{_≡_}
 use Prim.Native.Nat.{ℕ, _-_, _≤_}

@@ -1,4 +1,4 @@
--- `four_bytes` meets its contract.
+-- Each byte is below 256, so the sum stays below 2^32, and it is what the 32 bits spell (`number-bytes`).
 use mathlib.Core.Path.{_≡_, sym, _∙_}
 use Prim.Native.Nat.{_+_}
 use native.Mathlib.Nat.{add-zero}

@@ -1,4 +1,4 @@
--- `low_bits` meets its contract.
+-- 1 shifted up by fewer than 64 bits is 2^w, and one less is the mask of the w lowest bits, which leaves the remainder.
 use borrow.Author.Needs.{needs}
 use mathlib.Core.Path.{_≡_, refl, _∙_}
 use Prim.Native.Nat.{ℕ, _*_, _%_, _^_, _<_}

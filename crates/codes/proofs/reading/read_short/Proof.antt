@@ -1,4 +1,4 @@
--- `read_short` meets its contract.
+-- The w bits lie in the 4 bytes from `first` on; the shift drops those after them, and the w lowest that are left spell the number.
 use native.Mathlib.Omega.{arith}
 use mathlib.Core.Path.{_≡_, sym, _∙_}
 use Prim.Native.Nat.{ℕ, _+_, _-_, _*_, _≤_}

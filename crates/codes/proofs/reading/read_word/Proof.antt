@@ -1,4 +1,4 @@
--- `read_word` meets its contract.
+-- The w bits lie in the whole part, where it has fewer than 8 bytes, else in the 8 from `first` on; the shift drops the bits after them.
 use native.Mathlib.Omega.{arith}
 use mathlib.Core.Path.{_≡_, sym}
 use Prim.Native.Nat.{ℕ, _+_, _-_, _*_, _≤_}

@@ -1,4 +1,4 @@
--- `short_word` meets its contract.
+-- After i turns `acc` is the number that the first i bytes spell; of at most 7 bytes it stays below 2^56.
 use mathlib.Core.Path.{_≡_, refl, ap, _∙_}
 use Prim.Native.Nat.{_≤_, _<_, _*_, _-_, _^_}
 use native.Mathlib.Nat.{zero-add}

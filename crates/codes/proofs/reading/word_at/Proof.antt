@@ -1,4 +1,4 @@
--- `word_at` meets its contract.
+-- The first 32 bits, times 2^32, and the 32 bits after them spell the number of all 64 (`number-more`).
 use native.Mathlib.Omega.{arith}
 use mathlib.Core.Path.{_≡_}
 use Prim.Native.Nat.{_+_, _*_}

@@ -1,4 +1,4 @@
--- `drain` meets its contract: each turn moves eight of the waiting bits into a byte, so what is written stays.
+-- Each turn moves eight of the waiting bits into a byte, so what is written stays.
 use native.Mathlib.Omega.{arith}
 use mathlib.Core.Path.{refl}
 use mathlib.Core.List.{[]}

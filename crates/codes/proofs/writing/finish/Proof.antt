@@ -1,4 +1,4 @@
--- `finish` meets its contract: after `drain` fewer than eight bits wait, and a shift moves them to the top of the last byte.
+-- After `drain` fewer than eight bits wait, and a shift moves them to the top of the last byte.
 use native.Mathlib.Omega.{arith}
 use mathlib.Core.Path.{_≡_, sym, ap, _∙_}
 use mathlib.Core.List.{append-nil}

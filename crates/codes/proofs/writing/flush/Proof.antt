@@ -1,4 +1,4 @@
--- `flush` meets its contract: four bytes, one after the other.
+-- Four bytes, one after the other, each take eight of the waiting bits, so what is written stays.
 use native.Mathlib.Omega.{arith}
 use mathlib.Core.Path.{refl, _∙_}
 use Prim.Native.Nat.{_+_, _-_, _/_, _^_}

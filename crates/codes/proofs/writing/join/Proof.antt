@@ -1,4 +1,4 @@
--- `join` meets its contract: a shift within a word keeps the bits that it has room for, and leaves the low ones 0.
+-- A shift within a word keeps the bits that it has room for, and leaves the low ones 0.
 use native.Mathlib.Omega.{arith}
 use mathlib.Core.Path.{_≡_}
 use Prim.Native.Nat.{_+_, _-_, _*_, _%_, _^_}

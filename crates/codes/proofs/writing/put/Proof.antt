@@ -1,4 +1,4 @@
--- `put` meets its contract: the bits wait with those that do, and where these are 32 or more the first 32 are stored.
+-- The bits wait with those that do, and where these are 32 or more the first 32 are stored.
 use native.Mathlib.Omega.{arith}
 use mathlib.Core.List.{append-nil}
 use Prim.Native.Nat.{_-_}
