@@ -1,4 +1,4 @@
--- `counted` meets its contract.
+-- A pin count has the numbers that `given` gives, with 0 nodes, and a refusal those of `refused`, as in `ofOutcome`.
 use mathlib.Core.Path.{sym, ap, _∙_}
 use Rattle.strip.specs.Calls.{checked}
 use Rattle.strip_c.specs.Numbers.{ofOutcome}

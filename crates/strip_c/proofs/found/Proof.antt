@@ -1,4 +1,4 @@
--- `found` meets its contract.
+-- A position has the numbers that `given` gives, with the nodes opened, and a refusal those of `refused`, as in `ofWalk`.
 use mathlib.Core.Path.{sym, ap, _∙_}
 use Rattle.strip.specs.Calls.{searched}
 use Rattle.strip_c.specs.Numbers.{ofWalk}

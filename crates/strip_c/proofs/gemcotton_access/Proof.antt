@@ -1,4 +1,4 @@
--- `gemcotton_access` meets its contract.
+-- Access promises the answer; a time, with the nodes opened, and a refusal have the numbers of `ofWalk`.
 use mathlib.Core.Path.{sym, ap, _∙_}
 use Rattle.strip.specs.Calls.{accessed}
 use Rattle.strip_c.specs.Numbers.{ofWalk}

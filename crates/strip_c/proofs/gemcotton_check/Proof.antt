@@ -1,4 +1,4 @@
--- `gemcotton_check` meets its contract.
+-- Check promises the outcome, and `counted` its numbers.
 use mathlib.Core.Path.{ap, _∙_}
 use Rattle.strip_c.specs.Numbers.{ofOutcome}
 use borrow.Author.Needs.{needs}

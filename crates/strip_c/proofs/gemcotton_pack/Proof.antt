@@ -1,4 +1,4 @@
--- `gemcotton_pack` meets its contract.
+-- Pack promises the outcome and what it leaves in the output; a length and a refusal have the numbers of `ofOutcome`.
 use mathlib.Core.Path.{sym, ap, _∙_}
 use Rattle.strip.specs.Calls.{packed}
 use Rattle.strip_c.specs.Numbers.{ofOutcome}

@@ -1,4 +1,4 @@
--- `gemcotton_repeat` meets its contract.
+-- Repeat promises the outcome; a position, none, which is 0, and a refusal have the numbers of `ofRepeat`.
 use mathlib.Core.Path.{sym, ap, _∙_}
 use Rattle.strip.specs.Calls.{repeated}
 use Rattle.strip_c.specs.Numbers.{ofRepeat}

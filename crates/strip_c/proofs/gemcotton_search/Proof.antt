@@ -1,4 +1,4 @@
--- `gemcotton_search` meets its contract.
+-- Search promises the answer, and `found` its numbers.
 use mathlib.Core.Path.{ap, _∙_}
 use Rattle.strip_c.specs.Numbers.{ofWalk}
 use borrow.Author.Needs.{needs}

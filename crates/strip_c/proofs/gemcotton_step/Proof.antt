@@ -1,4 +1,4 @@
--- `gemcotton_step` meets its contract.
+-- `Strip::step` promises the answer and the next position, which is stored; a time, the end and a refusal have the numbers of `ofStep`.
 use mathlib.Core.Path.{sym, ap, _∙_}
 use Rattle.strip.specs.Calls.{stepped}
 use Rattle.strip_c.specs.Numbers.{ofStep}

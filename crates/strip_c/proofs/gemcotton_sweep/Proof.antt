@@ -1,4 +1,4 @@
--- `gemcotton_sweep` meets its contract.
+-- Sweep promises the answer and what it leaves in the answers lent; nodes and a refusal have the numbers of `ofWalk`.
 use mathlib.Core.Path.{sym, ap, _∙_}
 use Rattle.strip.specs.Calls.{swept}
 use Rattle.strip_c.specs.Numbers.{ofWalk}

@@ -1,4 +1,4 @@
--- `gemcotton_unpack` meets its contract.
+-- Unpack promises the outcome and what it leaves in the output, and `counted` the numbers of the outcome.
 use mathlib.Core.Path.{ap, _∙_}
 use Rattle.strip_c.specs.Numbers.{ofOutcome}
 use borrow.Author.Needs.{needs}

@@ -1,4 +1,4 @@
--- `no_levels` meets its contract.
+-- The first end is 7 + 5h, where the parts start; a number below 2^64 has a height of at most 64, so that it fits.
 use native.Mathlib.Omega.{arith}
 use Rattle.tree.proofs.Promises.{height-least}
 use borrow.Author.Needs.{needs}

@@ -1,4 +1,4 @@
--- `first_lower` meets its contract.
+-- A time is lower than the one before where it is before that plus 0 (`lower-near`).
 use mathlib.Core.Path.{sym, _∙_}
 use Rattle.strip.proofs.Gaps.{lower-near}
 use borrow.Author.Needs.{needs}

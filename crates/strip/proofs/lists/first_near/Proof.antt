@@ -1,4 +1,4 @@
--- `first_near` meets its contract.
+-- Where `none_near` is true the first near position is the length; else `near_from_start` finds it.
 use mathlib.Core.Path.{sym}
 use borrow.Author.Needs.{needs}
 use Rattle.strip.proofs.lists.first_near.Statement.{statement}

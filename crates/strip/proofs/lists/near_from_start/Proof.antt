@@ -1,4 +1,4 @@
--- `near_from_start` meets its contract.
+-- No time up to position i - 1 is near, so the first near one is that of the times from i - 1 on; from the last time on there is none.
 use native.Mathlib.Omega.{arith}
 use mathlib.Core.Path.{_≡_, sym, _∙_}
 use Prim.Native.Nat.{suc, _+_, _-_, _≤_, _<_, max}

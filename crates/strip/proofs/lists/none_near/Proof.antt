@@ -1,4 +1,4 @@
--- `none_near` meets its contract.
+-- While `any` is 0 no time up to position i - 1 is near, since `any` takes in every `near_bit`; if it is 0 at the end, none is.
 use native.Mathlib.Omega.{arith}
 use mathlib.Core.Path.{_≡_}
 use Prim.Native.Nat.{suc, _+_, _-_, _≤_, max}

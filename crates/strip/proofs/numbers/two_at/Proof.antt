@@ -1,4 +1,4 @@
--- `two_at` meets its contract.
+-- Two bytes, each below 256, the first times 256, make a number below 2^16.
 use native.Mathlib.Omega.{arith}
 use mathlib.Core.Path.{refl}
 use Prim.Native.Nat.{_+_}

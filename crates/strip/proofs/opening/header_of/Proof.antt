@@ -1,4 +1,4 @@
--- `header_of` meets its contract.
+-- Each branch fails one test and has passed those before it, in the order of `headerTests`; n has two bytes, so that h is at most 16.
 use native.Mathlib.Omega.{arith}
 use borrow.Author.Needs.{needs}
 use mathlib.Core.Path.{_≡_, sym, ap, _∙_}

@@ -1,4 +1,4 @@
--- `is_refused` meets its contract.
+-- `kind_of` gives the kind, and of the three kinds `isRefused` is true of the last alone.
 use mathlib.Core.Path.{sym, ap, _∙_}
 use Rattle.strip.specs.Opening.{isRefused}
 use borrow.Author.Needs.{needs}

@@ -1,4 +1,5 @@
--- `levels_of` meets its contract.
+-- After d turns the first d codes have passed and their levels are entered; the codes from d on and the length are still to test. After all
+-- `end` is the length that the entries tell.
 use native.Mathlib.Omega.{arith}
 use mathlib.Core.Path.{_≡_, refl, sym, ap, _∙_}
 use mathlib.Core.List.{List, [], _∷_, _++_}

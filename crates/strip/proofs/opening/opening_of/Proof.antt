@@ -1,4 +1,4 @@
--- `opening_of` meets its contract.
+-- The levels' tests come after the header's (`opening-steps`), and a header that passes has all that `levels_of` asks.
 use mathlib.Core.Path.{_≡_, sym, ap, _∙_}
 use Prim.Native.Nat.{ℕ}
 use Rattle.strip.specs.Outcomes.{Outcome, gives, verdict, after}

@@ -1,4 +1,4 @@
--- `pack_in` meets its contract.
+-- Construction leaves the stored values at the front, one for each time, and what `pack_values` packs is that front.
 use native.Mathlib.Omega.{arith}
 use mathlib.Core.Path.{_≡_, sym, ap, _∙_}
 use mathlib.Core.List.{List, _++_}

@@ -1,4 +1,4 @@
--- `pack_long` meets its contract.
+-- At most 65,535 pins have their values in 65,535 entries, and 32,768 to work in are half as many, rounded up, as `pack_in` asks.
 use native.Mathlib.Omega.{arith}
 use borrow.Author.Needs.{needs}
 use Rattle.strip.proofs.packing.pack_long.Statement.{statement}

@@ -1,4 +1,4 @@
--- `pack_values` meets its contract.
+-- The plan's last end is the length of the strip: an output with less room is refused with it, else `put_strip` writes the strip.
 use native.Mathlib.Omega.{arith}
 use mathlib.Core.Path.{refl, ap}
 use lib.ListN.{length}

@@ -1,4 +1,4 @@
--- `plan` meets its contract.
+-- After d turns the first d levels are entered, each with its chosen code and with where a part of the chosen size ends.
 use native.Mathlib.Omega.{arith}
 use mathlib.Core.Path.{_≡_, sym, ap, _∙_}
 use Prim.Native.Nat.{suc, _+_, _-_, _*_, _/_, _^_, _≤_}

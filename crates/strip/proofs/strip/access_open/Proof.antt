@@ -1,4 +1,4 @@
--- `access_open` meets its contract.
+-- From position n on the refusal is 14. Before it the answer is that of the tree's access, whose refusals keep their number and node.
 use native.Mathlib.Omega.{arith}
 use mathlib.Core.Path.{sym, ap, _∙_}
 use borrow.Author.Tests.{lt-ltb, le-ltb}

@@ -1,4 +1,4 @@
--- `search_open` meets its contract.
+-- The answer is that of the tree's search, whose refusals keep their number and node.
 use mathlib.Core.Path.{sym, ap, _∙_}
 use Rattle.tree.specs.Walks.{searched}
 use borrow.Author.Needs.{needs}

@@ -1,4 +1,4 @@
--- `step_open` meets its contract.
+-- From position n on the step is the end. Before it the step is what `access_open` gives, and only a time moves the position on by one.
 use native.Mathlib.Omega.{arith}
 use mathlib.Core.Path.{refl, sym, ap, _∙_}
 use borrow.Author.Tests.{lt-ltb, le-ltb}

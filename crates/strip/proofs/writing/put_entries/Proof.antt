@@ -1,4 +1,4 @@
--- `put_entries` meets its contract.
+-- After d turns the first d entries, of 5 bytes each, stand from byte 7 on; the ends do not fall, so no length is below 0.
 use native.Mathlib.Omega.{arith}
 use mathlib.Core.Path.{_≡_, refl, sym, ap, _∙_}
 use Prim.Native.Nat.{_+_, _-_, _*_, _≤_}

@@ -1,4 +1,4 @@
--- `put_entry` meets its contract.
+-- The five bytes written one by one are those of the entry, in place of the five from byte `at` on (`sets-eq`).
 use native.Mathlib.Omega.{arith}
 use mathlib.Core.Path.{_≡_}
 use Prim.Native.Nat.{suc, _+_}

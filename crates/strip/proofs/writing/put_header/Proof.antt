@@ -1,4 +1,4 @@
--- `put_header` meets its contract.
+-- The seven bytes written one by one are those of the header, in place of the first seven (`sets-eq`).
 use native.Mathlib.Omega.{arith}
 use lib.ListN.{length-set}
 use lib.Seq.{sets-eq}

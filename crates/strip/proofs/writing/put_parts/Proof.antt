@@ -1,4 +1,5 @@
--- `put_parts` meets its contract.
+-- After d turns the parts of the first d levels stand after the entries. The plan says where the next one starts and that there is room for
+-- it, and a level has at most half of the values, rounded up, for which `work` is long enough.
 use native.Mathlib.Omega.{arith}
 use mathlib.Core.Path.{_≡_, refl, sym, ap, _∙_}
 use mathlib.Core.List.{List, _++_}

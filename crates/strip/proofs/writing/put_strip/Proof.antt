@@ -1,4 +1,4 @@
--- `put_strip` meets its contract.
+-- Header, entries and parts, written one after the other, are the strip (`strip-written`); a plan's ends do not fall, as the entries need.
 use native.Mathlib.Omega.{arith}
 use mathlib.Core.Path.{ap, _∙_}
 use mathlib.Core.List.{List}

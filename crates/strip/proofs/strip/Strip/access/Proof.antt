@@ -1,4 +1,4 @@
--- `access` meets its contract.
+-- Opening decides: where it refuses, the access does; else the levels fit the strip, as `access_open` asks, and it gives the answer.
 use Rattle.strip.specs.Calls.{accessOf}
 use Rattle.strip.proofs.Openings.{opening-is}
 use borrow.Author.Needs.{needs}

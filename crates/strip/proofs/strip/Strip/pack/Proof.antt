@@ -1,4 +1,4 @@
--- `pack` meets its contract.
+-- 1, 2 and 3 are tested in turn; a list is ordered just where its first lower position is its length. `pack_list` has 4 and the image.
 use native.Mathlib.Omega.{arith}
 use mathlib.Core.Path.{refl}
 use lib.ListN.{length}

@@ -1,4 +1,4 @@
--- `search` meets its contract.
+-- Opening decides: where it refuses, the search does; else the levels fit the strip, as `search_open` asks, and it gives the answer.
 use Rattle.strip.specs.Calls.{searchOf}
 use Rattle.strip.proofs.Openings.{opening-is}
 use borrow.Author.Needs.{needs}

@@ -1,4 +1,4 @@
--- `step` meets its contract.
+-- Opening decides: where it refuses, the position stays; else the levels fit the strip, as `step_open` asks, and it gives the step.
 use mathlib.Core.Path.{refl}
 use Rattle.strip.specs.Calls.{stepOf, nextOf}
 use Rattle.strip.proofs.Openings.{opening-is}

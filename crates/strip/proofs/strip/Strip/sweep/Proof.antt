@@ -1,4 +1,4 @@
--- `sweep` meets its contract.
+-- Opening decides: where it refuses, nothing is written; else the levels fit the strip, as `sweep_open` asks, and it answers and writes.
 use mathlib.Core.Path.{refl}
 use Rattle.strip.specs.Calls.{sweepOf, sweepOutput}
 use Rattle.strip.proofs.Openings.{opening-is}

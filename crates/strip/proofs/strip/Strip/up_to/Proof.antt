@@ -1,4 +1,4 @@
--- `up_to` meets its contract.
+-- Opening decides. On an open strip the greatest time gives n and 0 nodes; below it t + 1 fits 32 bits, and `search_open` searches for it.
 use native.Mathlib.Omega.{arith}
 use Prim.Native.Nat.{_-_, _^_}
 use native.Mathlib.Numerals.{add-one}

@@ -1,5 +1,5 @@
--- `Walker::new` meets its contract: a walk of its MIR, by hand. A `Walker` is made of the strip passed and 0, in the result's local.
--- A `&[u8]` is Copy, so what it owns is had twice: once for the strip at exit, and once inside the result, beside the facts of the position.
+-- A walk of its MIR, by hand. A `Walker` is made of the strip passed and 0, in the result's local.
+-- A `&[u8]` is Copy, so what it owns is had twice: once for the strip at exit, and once inside the result, beside the position's facts.
 use mathlib.Core.Path.{refl}
 use Prim.Native.Nat.{ℕ}
 use mathlib.Core.List.{List, [], _∷_}

@@ -1,6 +1,7 @@
--- `Walker::step` meets its contract: a walk of its MIR, by hand. The borrow is opened, `Strip::step` is called on the strip and the next position that the walker
--- holds, the position that it returns is stored, and the borrow is closed at the walker with it. All that the proof knows of `Strip::step` is that it meets its contract.
--- What the walker owns is had twice: of one copy the strip goes to the callee; the other is kept, and its position's facts are made anew (`again`).
+-- A walk of its MIR, by hand. The borrow is opened, `Strip::step` is called on the strip and the next position that the walker holds, the
+-- position that it returns is stored, and the borrow is closed at the walker with it. Of `Strip::step` the proof knows its contract alone.
+-- What the walker owns is had twice: of one copy the strip goes to the callee; the other is kept, and its position's facts are made anew
+-- (`again`).
 use mathlib.Core.Path.{_≡_, refl, ap}
 use Prim.Native.Nat.{ℕ, _<_, _^_}
 use mathlib.Core.List.{List, [], _∷_}
