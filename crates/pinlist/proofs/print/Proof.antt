@@ -1,4 +1,4 @@
--- `print` meets its contract: which text is printed goes by the length and then by check, as in `printed`.
+-- Which text is printed goes by the length and then by check, as in `printed`.
 use native.Mathlib.Omega.{arith}
 use mathlib.Core.Path.{sym, ap, _∙_}
 use lib.ListN.{length}

@@ -1,5 +1,4 @@
--- `print_list` meets its contract: before each turn the listing up to position i is written, and the piece that is written next has the lines
--- from there on.
+-- Before each turn the listing up to position i is written, and the piece that is written next has the lines from there on.
 use native.Mathlib.Omega.{arith}
 use mathlib.Core.Path.{_≡_, _∙_}
 use Prim.Native.Nat.{_-_, _≤_}

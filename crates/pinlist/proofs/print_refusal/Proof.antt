@@ -1,4 +1,4 @@
--- `print_refusal` meets its contract: the line put is all that is printed for a refused strip.
+-- The line put is all that is printed for a refused strip.
 use native.Mathlib.Omega.{arith}
 use mathlib.Core.Path.{_≡_, sym, ap, _∙_}
 use native.Mathlib.Nat.{zero-add}

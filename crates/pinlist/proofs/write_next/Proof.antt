@@ -1,4 +1,4 @@
--- `write_next` meets its contract: what is written then begins the text, whose length fits 64 bits.
+-- What is written then begins the text, whose length fits 64 bits.
 use native.Mathlib.Omega.{arith}
 use mathlib.Core.Path.{ap}
 use lib.ListN.{length, length-append, length-take}

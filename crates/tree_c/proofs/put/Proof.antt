@@ -1,4 +1,4 @@
--- `put` meets its contract.
+-- The list has three entries, and each is written.
 use mathlib.Core.Path.{_≡_, refl}
 use mathlib.Core.List.{List, [], _∷_}
 use Prim.Native.Nat.{ℕ}

@@ -1,4 +1,4 @@
--- `put_refusal` meets its contract.
+-- 9 for a fetch and 10 for a time, each with its node, are the numbers of the definition, and `put` writes them before a 0.
 use mathlib.Core.Path.{sym, ap, _∙_}
 use mathlib.Core.List.{[], _∷_}
 use Rattle.tree.specs.declared.nodes.Refusal.{Refusal}

@@ -1,4 +1,4 @@
--- `tree_access` meets its contract.
+-- The tree's access promises the answer; a time, with the nodes opened, and a refusal have the numbers of `answerNumbers`.
 use mathlib.Core.Path.{sym, ap, _∙_}
 use Rattle.tree.specs.Walks.{accessed}
 use Rattle.tree_c.specs.Numbers.{answerNumbers}

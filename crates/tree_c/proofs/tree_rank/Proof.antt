@@ -1,4 +1,4 @@
--- `tree_rank` meets its contract.
+-- The tree's rank is `ranked`; a position is its own number, and 2^64 - 1 stands for no node.
 use mathlib.Core.Path.{sym, ap, _∙_}
 use Rattle.tree_c.specs.Numbers.{rankNumber}
 use borrow.Author.Needs.{needs}

@@ -1,4 +1,4 @@
--- `tree_search` meets its contract.
+-- The tree's search promises the answer; a position, with the nodes opened, and a refusal have the numbers of `answerNumbers`.
 use mathlib.Core.Path.{sym, ap, _∙_}
 use Rattle.tree.specs.Walks.{searched}
 use Rattle.tree_c.specs.Numbers.{answerNumbers}

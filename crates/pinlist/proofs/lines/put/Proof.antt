@@ -1,4 +1,4 @@
--- `put` meets its contract: after i turns the first i bytes are pasted into the text.
+-- After i turns the first i bytes are pasted into the text.
 use native.Mathlib.Omega.{arith}
 use mathlib.Core.Path.{_≡_, refl, _∙_}
 use Prim.Native.Nat.{_+_, _-_, _<_, _≤_}

@@ -1,4 +1,4 @@
--- `put_header` meets its contract: the numeral is put where `pins ` ends.
+-- The numeral is put where `pins ` ends.
 use native.Mathlib.Omega.{arith}
 use Prim.Native.Char.{code}
 use Rattle.pinlist.specs.Texts.{ascii, numeral, header}

@@ -1,4 +1,4 @@
--- `put_line` meets its contract: the second numeral is put where the first ends.
+-- The second numeral is put where the first ends.
 use native.Mathlib.Omega.{arith}
 use Prim.Native.Char.{code}
 use lib.ListN.{length-append}

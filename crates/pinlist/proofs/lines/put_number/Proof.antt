@@ -1,5 +1,4 @@
--- `put_number` meets its contract: `io::decimal` gives the fewest digits that hold the number, which are those of `decimal`, and the byte is
--- put after them.
+-- `io::decimal` gives the fewest digits that hold the number, which are those of `decimal`, and the byte is put after them.
 use native.Mathlib.Omega.{arith}
 use mathlib.Core.Path.{_≡_, sym, ap, _∙_}
 use mathlib.Core.List.{[], _∷_}

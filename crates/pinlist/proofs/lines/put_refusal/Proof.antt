@@ -1,4 +1,4 @@
--- `put_refusal` meets its contract: the line is put where `refused ` ends.
+-- The line is put where `refused ` ends.
 use native.Mathlib.Omega.{arith}
 use Rattle.pinlist.specs.Texts.{ascii, line, refusalLine}
 use Rattle.pinlist.proofs.Pieces.{puts-on}

@@ -1,5 +1,5 @@
--- `put_times` meets its contract: after k turns the lines of the first k positions stand at the front. Where there may be no room for one
--- more, k is not 0, since the text is longer than a line.
+-- After k turns the lines of k positions from `first` on stand at the front. Where there may be no room for one more, k is not 0, since the
+-- text is longer than a line.
 use native.Mathlib.Omega.{arith}
 use mathlib.Core.Path.{_≡_, refl, sym, _∙_}
 use Prim.Native.Nat.{_+_, _-_, _≤_}

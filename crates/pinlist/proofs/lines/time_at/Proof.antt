@@ -1,4 +1,4 @@
--- `time_at` meets its contract: on an accepted strip access gives time i and is not refused.
+-- On an accepted strip access gives time i and is not refused.
 use native.Mathlib.Omega.{arith}
 use mathlib.Core.Path.{_≡_, sym, ap, _∙_}
 use Prim.Native.Nat.{ℕ}
