@@ -2,14 +2,14 @@
 use mathlib.Core.Path.{_≡_, refl, sym, _∙_}
 use mathlib.Core.List.{List, [], _∷_, append-nil}
 use Prim.Native.Nat.{ℕ, zero, suc, _+_, _-_, _*_, _/_, _%_, _^_, _≤_, _<_}
-use native.Mathlib.Nat.{div-one}
+use native.Mathlib.Nat.{div-one, one-mul}
 use native.Mathlib.Numerals.{add-one}
 use native.Mathlib.Omega.{arith}
 use lib.ListN.{length, take, drop, getD, length-drop}
 use lib.Seq.{take-all, take-take, take-add, drop-drop, length-take-le}
 use lib.Arith.{digits-lt}
 use lib.Count.{ones, ones-cat}
-use lib.Pow.{pow-add, low, high, field, mod-mod-pow}
+use lib.Pow.{pow-add, low, high, field, mod-mod-pow, shl-exact}
 use Rattle.codes.specs.Bits.{number, sum, bitsOf, bytesFor}
 use Rattle.codes.specs.Codes.{Within}
 use Rattle.codes.proofs.Bits.{within-take, within-drop, bits-fixed, length-fixed, fixed-fetch, number-append, number-lt, number-part, number-take-lt, sum-take-add, sum-le}
@@ -158,3 +158,9 @@ ones-reversed (suc k) bytes i h b =
       rw (swap, e', pow-add 2 8 (k * 8)) (digits-lt {c = 2 ^ (k * 8)} (b (i + k)) (ih .0)),
       rw (swap, ones-cat (k * 8) x r (ih .0), here, e, ones-more bytes (i * 8) (k * 8) 8, e'') (omega arith),
     )
+
+-- ---- a power of two in a word
+
+-- 1, shifted up
+pub one-shl : (w : ℕ) → w < 64 → 1 * 2 ^ w % 2 ^ 64 ≡ 2 ^ w
+one-shl w h = shl-exact {a = 1} 1 w 64 (omega arith) (omega arith) ∙ one-mul (2 ^ w)

@@ -95,7 +95,6 @@ returns c =
     let k = p .before .before .before in
     let s = k .before .before .before .before .before .before in
     let w = k .kind .given .0 .0 in
-    let vs = s .args .values .now in
     let e : kindOf (s .args .code) ≡ Fixed w = sym (k .before .before .kind-of .ensures) ∙ k .kind .given .1 in
     let u = wrote-part (p .put-fixed .ensures .0) (c .before .before .finish .ensures) in
     rw e (u .0, (u .1, refl))

@@ -1,16 +1,12 @@
 -- 1 shifted up by fewer than 64 bits is 2^w, and one less is the mask of the w lowest bits, which leaves the remainder.
 use borrow.Author.Needs.{needs}
-use mathlib.Core.Path.{_≡_, refl, _∙_}
-use Prim.Native.Nat.{ℕ, _*_, _%_, _^_, _<_}
-use native.Mathlib.Nat.{mod-lt, one-mul}
-use native.Mathlib.Omega.{arith}
+use mathlib.Core.Path.{refl}
+use native.Mathlib.Nat.{mod-lt}
 use lib.Bits.{and-mask}
-use lib.Pow.{pow-pos, shl-exact}
+use lib.Pow.{pow-pos}
+use Rattle.codes.proofs.Words.{one-shl}
 use Rattle.codes.proofs.reading.low_bits.Statement.{statement}
 use Rattle.codes.proofs.reading.low_bits.Tie as tie
-
-one-shl : (w : ℕ) → w < 64 → 1 * 2 ^ w % 2 ^ 64 ≡ 2 ^ w
-one-shl w h = shl-exact {a = 1} 1 w 64 (omega arith) (omega arith) ∙ one-mul (2 ^ w)
 
 shl-result : tie.Need-shl-result
 shl-result c = search needs
