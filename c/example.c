@@ -24,10 +24,17 @@ static const uint32_t falling[2] = {7, 6};
 /* Room for any list's strip. */
 static uint8_t strip[GEMCOTTON_MAX_BYTES];
 
+/* Tells a refusal by its number and its sentence. */
+static void tell(FILE *out, const char *call, struct gemcotton_answer answer) {
+  fprintf(out, "%s: refused %zu: ", call, answer.refusal);
+  fprintf(out, gemcotton_sentence(answer.refusal), answer.value);
+  fprintf(out, "\n");
+}
+
 /* The answer of a call that should not be refused; a refusal ends the program. */
 static struct gemcotton_answer given(const char *call, struct gemcotton_answer answer) {
   if (answer.refusal != GEMCOTTON_NONE) {
-    fprintf(stderr, "%s: refused %zu, carrying %zu\n", call, answer.refusal, answer.value);
+    tell(stderr, call, answer);
     exit(EXIT_FAILURE);
   }
   return answer;
@@ -98,25 +105,29 @@ int main(void) {
   printf("without its last byte\n");
   answer = gemcotton_check(strip, length - 1);
   if (answer.refusal != GEMCOTTON_NONE) {
-    printf("  check: refused %zu, carrying %zu\n", answer.refusal, answer.value);
+    tell(stdout, "  check", answer);
   }
   next = 0;
   answer = gemcotton_step(&next, strip, length - 1);
   if (answer.refusal != GEMCOTTON_NONE) {
-    printf("  step: refused %zu, carrying %zu, next position %zu\n", answer.refusal, answer.value, next);
+    tell(stdout, "  step", answer);
+    printf("  next position: %zu\n", next);
   }
 
   /* 9 and 10 carry a node, whose position rank tells. With the root's time changed to 0, its left child has a time below 0. */
+  printf("with the root's time changed to 0\n");
   strip[7 + 5 * gemcotton_height(pins)] = 0;
   answer = gemcotton_check(strip, length);
   if (answer.refusal == GEMCOTTON_TIME) {
-    printf("changed: no time at node %zu, position %zu\n", answer.value, gemcotton_rank(pins, answer.value));
+    tell(stdout, "  check", answer);
+    printf("  node %zu: position %zu\n", answer.value, gemcotton_rank(pins, answer.value));
   }
 
-  /* A refusal is told by its number, and what is carried says where. */
+  /* A list that falls. */
+  printf("7, 6\n");
   answer = gemcotton_pack(strip, sizeof strip, falling, 2);
   if (answer.refusal == GEMCOTTON_LIST_FALLS) {
-    printf("the list 7, 6 falls at position %zu\n", answer.value);
+    tell(stdout, "  pack", answer);
   }
   return EXIT_SUCCESS;
 }

@@ -1,4 +1,5 @@
-/* The calls on pin strips, for programs in C. Link with libstrip_c.a.
+/* The calls on pin strips, for programs in C. Link with libstrip_c.a, which `rt staticlib strip_c` makes in the repository's
+ * folder, under target/staticlib. It needs memcpy and memset from the C library, and nothing else.
  *
  * A list is strike times, unsigned 32-bit milliseconds, none less than the one before; positions run from 0. A strip is bytes
  * of any content and length, and it is accepted when some list packs to it, as check finds. Every call answers on any input,
@@ -9,8 +10,14 @@
  * comment says, and nothing at a refusal, but for a sweep that has written the answers of earlier targets. No call keeps a
  * pointer, uses a heap or has a state of its own, so calls may run at the same time where none writes what another is lent.
  *
- * Stack, measured on x86-64 and not proved: pack, check, unpack and repeat take at most 24 KiB for up to 1,023 pins, and at
- * most 540 KiB for more; sweep takes at most 28 KiB, and every other call at most 4 KiB.
+ * The bytes of the stack that a call takes, rounded up, measured on x86-64 and not proved:
+ *
+ *                                  up to 1,023 pins     more
+ *   height, root place, rank                  1,000    1,000
+ *   access, search, up-to, step               1,000    1,000
+ *   sweep                                    26,000   26,000
+ *   pack                                      9,000  396,000
+ *   check, unpack, repeat                    15,000  534,000
  */
 #ifndef GEMCOTTON_H
 #define GEMCOTTON_H
@@ -47,6 +54,30 @@ enum gemcotton_refusal {
   GEMCOTTON_ANSWERS = 15,   /* answers and targets differ in length: 0 */
   GEMCOTTON_TARGETS_FALL = 16 /* the targets fall: the first index with a lower target than the one before */
 };
+
+/* The sentence of a refusal, which is a format for printf and its like with at most one %zu, for what is carried. So this
+ * prints it: printf(gemcotton_sentence(answer.refusal), answer.value). Any other number than those above has one too. */
+static inline const char *gemcotton_sentence(size_t refusal) {
+  switch (refusal) {
+    case GEMCOTTON_EMPTY: return "there are no pins";
+    case GEMCOTTON_TOO_MANY: return "there are more than 65535 pins";
+    case GEMCOTTON_LIST_FALLS: return "the list falls at position %zu";
+    case GEMCOTTON_SHORT: return "the output is shorter than the %zu needed";
+    case GEMCOTTON_CUT: return "the strip is cut short";
+    case GEMCOTTON_MARK: return "the strip's mark is not PIN";
+    case GEMCOTTON_VERSION: return "the strip's version is not 1";
+    case GEMCOTTON_CODE: return "level %zu has a refused code";
+    case GEMCOTTON_FETCH: return "node %zu has no 32-bit value in its part";
+    case GEMCOTTON_TIME: return "the time of node %zu is not a 32-bit number";
+    case GEMCOTTON_TIMES_FALL: return "the strip's times fall at position %zu";
+    case GEMCOTTON_IMAGE: return "the strip is not what its list packs to";
+    case GEMCOTTON_LENGTH: return "the strip's length is not its header and parts";
+    case GEMCOTTON_POSITION: return "the position is not below the pin count";
+    case GEMCOTTON_ANSWERS: return "there are not as many answers as targets";
+    case GEMCOTTON_TARGETS_FALL: return "the targets fall at index %zu";
+    default: return "there is no refusal";
+  }
+}
 
 /* `refusal` is 0 where the call is not refused; `value` is then what it gives, and `nodes` the number of nodes that it opened,
  * 0 for a call that counts none. Otherwise `refusal` is a number of the list above, `value` what is carried, and `nodes` 0. */

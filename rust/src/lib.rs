@@ -1,13 +1,13 @@
-//! Level codes, tree and strip four times over: a slow reference, a plain baseline for speed, code
-//! written for speed, and the proved library behind its C functions.
+//! What the tests and the benchmark are made of: an independent implementation of the scope, a
+//! corpus of strips, the table of calls that is run over it, and an implementation for speed.
 
+pub mod calls;
+pub mod compare;
+pub mod corpus;
 pub mod fast;
-pub mod lend;
 pub mod lists;
 pub mod parts;
-pub mod proved;
+pub mod plain;
 pub mod random;
 pub mod reference;
-pub mod straightforward;
 pub mod strips;
-pub mod tally;

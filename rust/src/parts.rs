@@ -69,3 +69,10 @@ pub fn with_zeros(values: &[u32], b: u32, random: &mut Random) -> Vec<Vec<u32>> 
     }
     chains
 }
+
+/// Makes this bit of the number 1.
+pub fn set_bit(chunks: &mut Vec<u32>, place: usize, b: u32) {
+    let b = b as usize;
+    chunks.resize(chunks.len().max(place / b + 1), 0);
+    chunks[place / b] |= 1 << (place % b);
+}

@@ -80,27 +80,34 @@ fn main() -> Result<(), Refusal> {
     println!("without its last byte");
     let cut = &strip[..length - 1];
     if let Err(refusal) = check(cut) {
-        let (number, carried) = (refusal.number(), refusal.carried());
-        println!("  check: refused {number}, carrying {carried}");
+        tell("check", refusal);
     }
     let mut walker = Walker::new(cut);
     if let Err(refusal) = walker.step() {
-        let (number, carried, next) = (refusal.number(), refusal.carried(), walker.next);
-        println!("  step: refused {number}, carrying {carried}, next position {next}");
+        tell("step", refusal);
+        println!("  next position: {}", walker.next);
     }
 
     // `Fetch` and `Time` carry a node, whose position `rank` tells. With the root's time changed to
     // 0, its left child has a time below 0.
+    println!("with the root's time changed to 0");
     out[7 + 5 * height(pins)] = 0;
-    if let Err(Refusal::Time { node }) = check(&out[..length]) {
+    if let Err(refusal @ Refusal::Time { node }) = check(&out[..length]) {
+        tell("check", refusal);
         if let Some(position) = rank(pins, node) {
-            println!("changed: no time at node {node}, position {position}");
+            println!("  node {node}: position {position}");
         }
     }
 
-    // A refusal is told by its case, and what it carries says where.
-    if let Err(Refusal::ListFalls { position }) = pack(&mut out, &FALLING) {
-        println!("the list 7, 6 falls at position {position}");
+    // A list that falls.
+    println!("7, 6");
+    if let Err(refusal @ Refusal::ListFalls { .. }) = pack(&mut out, &FALLING) {
+        tell("pack", refusal);
     }
     Ok(())
+}
+
+/// Tells a refusal by its number and its sentence.
+fn tell(call: &str, refusal: Refusal) {
+    println!("  {call}: refused {}: {refusal}", refusal.number());
 }

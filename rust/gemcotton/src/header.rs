@@ -1,4 +1,4 @@
-//! What the C header declares, and the answers that it allows.
+//! What the C header declares, and its answers.
 
 use crate::{Accessed, Refusal};
 
@@ -11,49 +11,40 @@ pub(crate) struct Answer {
     nodes: usize,
 }
 
-/// The numbers that the calls may be refused with.
-pub(crate) const PACK: [usize; 4] = [1, 2, 3, 4];
-pub(crate) const ACCESS: [usize; 9] = [5, 6, 7, 1, 8, 13, 14, 9, 10];
-pub(crate) const SEARCH: [usize; 8] = [5, 6, 7, 1, 8, 13, 9, 10];
-pub(crate) const SWEEP: [usize; 10] = [5, 6, 7, 1, 8, 13, 15, 16, 9, 10];
-pub(crate) const CHECK: [usize; 10] = [5, 6, 7, 1, 8, 13, 9, 10, 11, 12];
-pub(crate) const UNPACK: [usize; 11] = [5, 6, 7, 1, 8, 13, 9, 10, 11, 12, 4];
-pub(crate) const REPEAT: [usize; 9] = [5, 6, 7, 1, 8, 13, 9, 10, 11];
-pub(crate) const STEP: [usize; 8] = [5, 6, 7, 1, 8, 13, 9, 10];
-
 impl Answer {
-    /// The value and the nodes opened, or the refusal, which has one of these numbers.
+    /// The value and the nodes opened, or the refusal. Panics where the C header has no such
+    /// answer.
     #[inline]
-    pub(crate) fn outcome(self, numbers: &[usize]) -> Result<(usize, usize), Refusal> {
+    pub(crate) fn outcome(self) -> Result<(usize, usize), Refusal> {
         if self.refusal == 0 {
             return Ok((self.value, self.nodes));
         }
         match Refusal::new(self.refusal, self.value) {
-            Some(refusal) if self.nodes == 0 && numbers.contains(&self.refusal) => Err(refusal),
-            _ => panic!("the C header allows no such answer: {self:?}"),
+            Some(refusal) if self.nodes == 0 => Err(refusal),
+            _ => panic!("the C header has no such answer: {self:?}"),
         }
     }
 
     /// As `outcome`, of a call that counts no nodes.
     #[inline]
-    pub(crate) fn value(self, numbers: &[usize]) -> Result<usize, Refusal> {
-        let (value, nodes) = self.outcome(numbers)?;
+    pub(crate) fn value(self) -> Result<usize, Refusal> {
+        let (value, nodes) = self.outcome()?;
         assert_eq!(nodes, 0, "the call counts no nodes");
         Ok(value)
     }
 
     /// As `outcome`, of a call that gives the nodes alone.
     #[inline]
-    pub(crate) fn nodes(self, numbers: &[usize]) -> Result<usize, Refusal> {
-        let (value, nodes) = self.outcome(numbers)?;
+    pub(crate) fn nodes(self) -> Result<usize, Refusal> {
+        let (value, nodes) = self.outcome()?;
         assert_eq!(value, 0, "the call gives the nodes alone");
         Ok(nodes)
     }
 
     /// As `outcome`, of a call that gives a time.
     #[inline]
-    pub(crate) fn time(self, numbers: &[usize]) -> Result<Accessed, Refusal> {
-        let (time, nodes) = self.outcome(numbers)?;
+    pub(crate) fn time(self) -> Result<Accessed, Refusal> {
+        let (time, nodes) = self.outcome()?;
         let time = u32::try_from(time).expect("a time has 32 bits");
         assert_ne!(nodes, 0, "a time has nodes, from the root on");
         Ok(Accessed { time, nodes })
@@ -61,12 +52,11 @@ impl Answer {
 
     /// As `time`, of a call that may say end, which is none.
     #[inline]
-    pub(crate) fn time_or_end(self, numbers: &[usize]) -> Result<Option<Accessed>, Refusal> {
-        if self.refusal == 0 && self.nodes == 0 {
-            assert_eq!(self.value, 0, "end has no value");
-            return Ok(None);
+    pub(crate) fn time_or_end(self) -> Result<Option<Accessed>, Refusal> {
+        match self.outcome()? {
+            (0, 0) => Ok(None),
+            _ => self.time().map(Some),
         }
-        self.time(numbers).map(Some)
     }
 }
 
@@ -108,68 +98,41 @@ mod tests {
     use super::*;
     use std::panic::catch_unwind;
 
-    /// Values and nodes of answers; the last value has more than 32 bits.
-    const ANSWERS: [(usize, usize); 6] =
-        [(0, 0), (7, 0), (0, 1), (7, 3), (1 << 32, 0), (1 << 32, 3)];
+    /// Whether the answer of these three numbers panics where a call like this reads it.
+    fn panics<T>(refusal: usize, value: usize, nodes: usize, read: fn(Answer) -> T) -> bool {
+        let answer = Answer {
+            refusal,
+            value,
+            nodes,
+        };
+        catch_unwind(|| read(answer)).is_err()
+    }
 
     #[test]
-    fn answers_that_the_header_does_not_allow_panic() {
-        for call in [
-            &PACK[..],
-            &ACCESS,
-            &SEARCH,
-            &SWEEP,
-            &CHECK,
-            &UNPACK,
-            &REPEAT,
-            &STEP,
-        ] {
-            for refusal in 0..=20 {
-                for (value, nodes) in ANSWERS {
-                    let answer = Answer {
-                        refusal,
-                        value,
-                        nodes,
-                    };
-                    let expected = match Refusal::new(refusal, value) {
-                        _ if refusal == 0 => Some(Ok((value, nodes))),
-                        Some(why) if nodes == 0 && call.contains(&refusal) => Some(Err(why)),
-                        _ => None,
-                    };
-                    let found = catch_unwind(|| answer.outcome(call)).ok();
-                    assert_eq!(found, expected, "{answer:?}");
-                    // Calls that count no nodes take the same answers without any.
-                    let without = expected
-                        .filter(|_| nodes == 0)
-                        .map(|found| found.map(|(value, _)| value));
-                    let found = catch_unwind(|| answer.value(call)).ok();
-                    assert_eq!(found, without, "{answer:?}");
-                    // Those that give the nodes alone take refusals, and the value 0.
-                    let alone = expected
-                        .filter(|found| found.is_err() || value == 0)
-                        .map(|found| found.map(|(_, nodes)| nodes));
-                    let found = catch_unwind(|| answer.nodes(call)).ok();
-                    assert_eq!(found, alone, "{answer:?}");
-                    // Those that give a time take refusals, and 32 bits with nodes.
-                    let time = expected
-                        .filter(|found| found.is_err() || (value < 1 << 32 && nodes > 0))
-                        .map(|found| {
-                            let time = value as u32;
-                            found.map(|_| Accessed { time, nodes })
-                        });
-                    let found = catch_unwind(|| answer.time(call)).ok();
-                    assert_eq!(found, time, "{answer:?}");
-                    // Those that may say end take it too, which is 0 three times.
-                    let end = (refusal, value, nodes) == (0, 0, 0);
-                    let time_or_end = if end {
-                        Some(Ok(None))
-                    } else {
-                        time.map(|found| found.map(Some))
-                    };
-                    let found = catch_unwind(|| answer.time_or_end(call)).ok();
-                    assert_eq!(found, time_or_end, "{answer:?}");
-                }
-            }
+    fn answers_that_the_header_does_not_have_panic() {
+        // No refusal of this number, one that carries nothing, and nodes at a refusal.
+        for (refusal, value, nodes) in [(999, 0, 0), (5, 1, 0), (9, 1, 1)] {
+            assert!(panics(refusal, value, nodes, Answer::outcome));
+        }
+        assert!(!panics(9, 1, 0, Answer::outcome));
+        // Nodes of a call that counts none, and a value of one that gives the nodes alone.
+        assert!(panics(0, 7, 1, Answer::value) && !panics(0, 7, 0, Answer::value));
+        assert!(panics(0, 1, 3, Answer::nodes) && !panics(0, 0, 3, Answer::nodes));
+        // A time without nodes, and one of more than 32 bits.
+        for read in [Answer::time, |answer: Answer| {
+            answer.time_or_end().map(|found| found.expect("a time"))
+        }] {
+            assert!(panics(0, 7, 0, read) && panics(0, 1 << 32, 3, read));
+            assert!(!panics(0, 7, 3, read));
+        }
+        assert_eq!(answer_of_end().time_or_end(), Ok(None));
+    }
+
+    fn answer_of_end() -> Answer {
+        Answer {
+            refusal: 0,
+            value: 0,
+            nodes: 0,
         }
     }
 }

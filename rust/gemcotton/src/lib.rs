@@ -65,9 +65,22 @@
 //!
 //! # Stack
 //!
-//! Measured on x86-64, and not proved: [`pack`], [`check`], [`unpack`] and [`repeat`] take at most
-//! 24 KiB of the stack for up to 1,023 pins, and at most 540 KiB for more. [`sweep`] takes at most
-//! 28 KiB, and every other call at most 4 KiB.
+//! The bytes of the stack that a call takes, rounded up. They are measured on x86-64, not proved.
+//! No call uses a heap.
+//!
+//! | call | up to 1,023 pins | more |
+//! |---|---:|---:|
+//! | [`height`], [`root_place`], [`rank`] | 1,000 | 1,000 |
+//! | [`access`], [`search`], [`up_to`], [`step`](Walker::step) | 1,000 | 1,000 |
+//! | [`sweep`] | 26,000 | 26,000 |
+//! | [`pack`] | 9,000 | 396,000 |
+//! | [`check`], [`unpack`], [`repeat`] | 15,000 | 534,000 |
+//!
+//! # Linking
+//!
+//! This package links `target/staticlib/libstrip_c.a`, which `rt staticlib strip_c` makes in the
+//! repository's folder. The archive needs `memcpy` and `memset` from the C library, and nothing
+//! else.
 
 #![warn(missing_docs)]
 
@@ -81,7 +94,7 @@ pub use walker::{Times, Walker};
 use header::{
     gemcotton_access, gemcotton_check, gemcotton_height, gemcotton_pack, gemcotton_rank,
     gemcotton_repeat, gemcotton_root_place, gemcotton_search, gemcotton_sweep, gemcotton_unpack,
-    gemcotton_up_to, ACCESS, CHECK, PACK, REPEAT, SEARCH, SWEEP, UNPACK,
+    gemcotton_up_to,
 };
 
 /// The greatest pin count of a strip.
@@ -156,7 +169,7 @@ pub fn pack(out: &mut [u8], times: &[u32]) -> Result<usize, Refusal> {
     // overlaps nothing.
     let answer =
         unsafe { gemcotton_pack(out.as_mut_ptr(), out.len(), times.as_ptr(), times.len()) };
-    answer.value(&PACK)
+    answer.value()
 }
 
 /// Gives the time at position i and the nodes opened, from the root to that time's node.
@@ -167,7 +180,7 @@ pub fn pack(out: &mut [u8], times: &[u32]) -> Result<usize, Refusal> {
 pub fn access(strip: &[u8], i: usize) -> Result<Accessed, Refusal> {
     // SAFETY: the pointer and length are a slice's, so not null.
     let answer = unsafe { gemcotton_access(strip.as_ptr(), strip.len(), i) };
-    answer.time(&ACCESS)
+    answer.time()
 }
 
 /// Gives the position of the first strike at or after the target, or the pin count, and the
@@ -181,7 +194,7 @@ pub fn access(strip: &[u8], i: usize) -> Result<Accessed, Refusal> {
 pub fn search(strip: &[u8], target: u32) -> Result<Searched, Refusal> {
     // SAFETY: the pointer and length are a slice's, so not null.
     let answer = unsafe { gemcotton_search(strip.as_ptr(), strip.len(), target) };
-    let (position, nodes) = answer.outcome(&SEARCH)?;
+    let (position, nodes) = answer.outcome()?;
     Ok(Searched { position, nodes })
 }
 
@@ -194,7 +207,7 @@ pub fn search(strip: &[u8], target: u32) -> Result<Searched, Refusal> {
 pub fn up_to(strip: &[u8], time: u32) -> Result<UpTo, Refusal> {
     // SAFETY: the pointer and length are a slice's, so not null.
     let answer = unsafe { gemcotton_up_to(strip.as_ptr(), strip.len(), time) };
-    let (strikes, nodes) = answer.outcome(&SEARCH)?;
+    let (strikes, nodes) = answer.outcome()?;
     Ok(UpTo { strikes, nodes })
 }
 
@@ -242,7 +255,7 @@ pub fn sweep(answers: &mut [u32], strip: &[u8], targets: &[u32]) -> Result<usize
             targets.len(),
         )
     };
-    answer.nodes(&SWEEP)
+    answer.nodes()
 }
 
 /// Gives the pin count of an accepted strip, and refuses every other one.
@@ -254,7 +267,7 @@ pub fn sweep(answers: &mut [u32], strip: &[u8], targets: &[u32]) -> Result<usize
 pub fn check(strip: &[u8]) -> Result<usize, Refusal> {
     // SAFETY: the pointer and length are a slice's, so not null.
     let answer = unsafe { gemcotton_check(strip.as_ptr(), strip.len()) };
-    answer.value(&CHECK)
+    answer.value()
 }
 
 /// Writes the list that packs to the strip to the front of `out`, whose later entries keep
@@ -268,7 +281,7 @@ pub fn unpack(out: &mut [u32], strip: &[u8]) -> Result<usize, Refusal> {
     // overlaps nothing.
     let answer =
         unsafe { gemcotton_unpack(out.as_mut_ptr(), out.len(), strip.as_ptr(), strip.len()) };
-    answer.value(&UNPACK)
+    answer.value()
 }
 
 /// Gives the first position, from 1 on, whose time is less than `r` milliseconds after the one
@@ -281,7 +294,7 @@ pub fn unpack(out: &mut [u32], strip: &[u8]) -> Result<usize, Refusal> {
 pub fn repeat(strip: &[u8], r: u32) -> Result<Option<usize>, Refusal> {
     // SAFETY: the pointer and length are a slice's, so not null.
     let answer = unsafe { gemcotton_repeat(strip.as_ptr(), strip.len(), r) };
-    let position = answer.value(&REPEAT)?;
+    let position = answer.value()?;
     // Position 0 has none before it, so 0 is the C interface's none.
     Ok((position > 0).then_some(position))
 }

@@ -5,158 +5,118 @@ use std::fmt;
 
 use crate::MAX_PINS;
 
-/// Why a call was refused. Each case begins with its number in the scope, which is called 01.
-#[derive(Debug, Clone, Copy, PartialEq, Eq)]
-#[non_exhaustive]
-pub enum Refusal {
-    /// 1: there are no pins, in the list or by the strip's header.
-    Empty,
-    /// 2: the list has more than [`MAX_PINS`] pins.
-    TooMany,
-    /// 3: the list falls.
-    ListFalls {
+/// Makes [`Refusal`] of a table, in which each refusal stands once: its number, its name, what it
+/// carries if it carries anything, and its sentence. `include/gemcotton.h` has the same for C.
+macro_rules! refusals {
+    ($(
+        $(#[$condition:meta])*
+        $number:literal $name:ident $({ $(#[$meaning:meta])* $carried:ident })? => $sentence:literal;
+    )*) => {
+        /// Why a call was refused.
+        ///
+        /// Each case has a number, which [`number`](Refusal::number) gives and C programs see. It
+        /// may carry what was met, which [`carried`](Refusal::carried) gives. Shown, it is a
+        /// sentence.
+        #[derive(Debug, Clone, Copy, PartialEq, Eq)]
+        #[non_exhaustive]
+        pub enum Refusal {
+            $(
+                $(#[$condition])*
+                #[doc = concat!("\n\nNumber ", $number, ", shown as \"", $sentence, "\".")]
+                $name $({ $(#[$meaning])* $carried: usize })?,
+            )*
+        }
+
+        impl Refusal {
+            /// The refusal of this number that carries this, or none where there is no such.
+            pub(crate) fn new(number: usize, carried: usize) -> Option<Refusal> {
+                let refusal = match number {
+                    $($number => Refusal::$name { $($carried: carried)? },)*
+                    _ => return None,
+                };
+                Some(refusal).filter(|refusal| refusal.carried() == carried)
+            }
+
+            /// The number of this refusal.
+            pub fn number(&self) -> usize {
+                match self {
+                    $(Refusal::$name { .. } => $number,)*
+                }
+            }
+
+            /// What this refusal carries: a position, bytes or entries, a level, a node or an
+            /// index, else 0.
+            pub fn carried(&self) -> usize {
+                match self {
+                    $(Refusal::$name { $($carried)? } => 0 $(+ $carried)?,)*
+                }
+            }
+        }
+
+        impl fmt::Display for Refusal {
+            fn fmt(&self, f: &mut fmt::Formatter<'_>) -> fmt::Result {
+                match self {
+                    $(Refusal::$name { $($carried)? } => write!(f, $sentence),)*
+                }
+            }
+        }
+    };
+}
+
+refusals! {
+    /// There are no pins, in the list or by the strip's header.
+    1 Empty => "there are no pins";
+    /// The list has more than [`MAX_PINS`] pins.
+    2 TooMany => "there are more than {MAX_PINS} pins";
+    /// The list falls.
+    3 ListFalls {
         /// The first position with a lower time than the one before.
-        position: usize,
-    },
-    /// 4: the output is shorter than needed.
-    Short {
+        position
+    } => "the list falls at position {position}";
+    /// The output is shorter than needed.
+    4 Short {
         /// The bytes ([`pack`](crate::pack)) or entries ([`unpack`](crate::unpack)) needed.
-        needed: usize,
-    },
-    /// 5: the strip is cut short.
-    Cut,
-    /// 6: the strip's mark is not `PIN`.
-    Mark,
-    /// 7: the strip's version is not 1.
-    Version,
-    /// 8: a level has a refused code.
-    Code {
+        needed
+    } => "the output is shorter than the {needed} needed";
+    /// The strip is cut short.
+    5 Cut => "the strip is cut short";
+    /// The strip's mark is not `PIN`.
+    6 Mark => "the strip's mark is not PIN";
+    /// The strip's version is not 1.
+    7 Version => "the strip's version is not 1";
+    /// A level has a code other than 0 to 32 and 65 to 72.
+    8 Code {
         /// The first such level, counted from 1.
-        level: usize,
-    },
-    /// 9: a fetch passes its level's part, or its value is 2^32 or more.
-    Fetch {
+        level
+    } => "level {level} has a refused code";
+    /// A fetch passes its level's part, or its value is 2^32 or more.
+    9 Fetch {
         /// The node fetched.
-        node: usize,
-    },
-    /// 10: a time is below 0 or above 4,294,967,295.
-    Time {
+        node
+    } => "node {node} has no 32-bit value in its part";
+    /// A time is below 0 or above 4,294,967,295.
+    10 Time {
         /// The node of that time.
-        node: usize,
-    },
-    /// 11: the strip's times fall.
-    TimesFall {
+        node
+    } => "the time of node {node} is not a 32-bit number";
+    /// The strip's times fall.
+    11 TimesFall {
         /// The first position with a lower time than the one before.
-        position: usize,
-    },
-    /// 12: the strip has other bytes than its list packs to.
-    Image,
-    /// 13: the strip's length is not that of its header, level entries and parts.
-    Length,
-    /// 14: the position is not below the pin count.
-    Position,
-    /// 15: there are not as many answers as targets.
-    Answers,
-    /// 16: the targets fall.
-    TargetsFall {
+        position
+    } => "the strip's times fall at position {position}";
+    /// The strip has other bytes than its list packs to.
+    12 Image => "the strip is not what its list packs to";
+    /// The strip's length is not that of its header, level entries and parts.
+    13 Length => "the strip's length is not its header and parts";
+    /// The position is not below the pin count.
+    14 Position => "the position is not below the pin count";
+    /// There are not as many answers as targets.
+    15 Answers => "there are not as many answers as targets";
+    /// The targets fall.
+    16 TargetsFall {
         /// The first index with a lower target than the one before.
-        index: usize,
-    },
-}
-
-impl Refusal {
-    /// The refusal of this number that carries this, or none where the C header has no such.
-    pub(crate) fn new(number: usize, carried: usize) -> Option<Refusal> {
-        Some(match (number, carried) {
-            (1, 0) => Refusal::Empty,
-            (2, 0) => Refusal::TooMany,
-            (3, position) => Refusal::ListFalls { position },
-            (4, needed) => Refusal::Short { needed },
-            (5, 0) => Refusal::Cut,
-            (6, 0) => Refusal::Mark,
-            (7, 0) => Refusal::Version,
-            (8, level) => Refusal::Code { level },
-            (9, node) => Refusal::Fetch { node },
-            (10, node) => Refusal::Time { node },
-            (11, position) => Refusal::TimesFall { position },
-            (12, 0) => Refusal::Image,
-            (13, 0) => Refusal::Length,
-            (14, 0) => Refusal::Position,
-            (15, 0) => Refusal::Answers,
-            (16, index) => Refusal::TargetsFall { index },
-            _ => return None,
-        })
-    }
-
-    /// 01's number for this refusal.
-    pub fn number(&self) -> usize {
-        match self {
-            Refusal::Empty => 1,
-            Refusal::TooMany => 2,
-            Refusal::ListFalls { .. } => 3,
-            Refusal::Short { .. } => 4,
-            Refusal::Cut => 5,
-            Refusal::Mark => 6,
-            Refusal::Version => 7,
-            Refusal::Code { .. } => 8,
-            Refusal::Fetch { .. } => 9,
-            Refusal::Time { .. } => 10,
-            Refusal::TimesFall { .. } => 11,
-            Refusal::Image => 12,
-            Refusal::Length => 13,
-            Refusal::Position => 14,
-            Refusal::Answers => 15,
-            Refusal::TargetsFall { .. } => 16,
-        }
-    }
-
-    /// What this refusal carries in 01: a position, bytes or entries, a level, a node or an index,
-    /// else 0.
-    pub fn carried(&self) -> usize {
-        match *self {
-            Refusal::ListFalls { position } | Refusal::TimesFall { position } => position,
-            Refusal::Short { needed } => needed,
-            Refusal::Code { level } => level,
-            Refusal::Fetch { node } | Refusal::Time { node } => node,
-            Refusal::TargetsFall { index } => index,
-            Refusal::Empty
-            | Refusal::TooMany
-            | Refusal::Cut
-            | Refusal::Mark
-            | Refusal::Version
-            | Refusal::Image
-            | Refusal::Length
-            | Refusal::Position
-            | Refusal::Answers => 0,
-        }
-    }
-}
-
-impl fmt::Display for Refusal {
-    fn fmt(&self, f: &mut fmt::Formatter<'_>) -> fmt::Result {
-        match self {
-            Refusal::Empty => write!(f, "there are no pins"),
-            Refusal::TooMany => write!(f, "there are more than {MAX_PINS} pins"),
-            Refusal::ListFalls { position } => write!(f, "the list falls at position {position}"),
-            Refusal::Short { needed } => {
-                write!(f, "the output is shorter than the {needed} needed")
-            }
-            Refusal::Cut => write!(f, "the strip is cut short"),
-            Refusal::Mark => write!(f, "the strip's mark is not PIN"),
-            Refusal::Version => write!(f, "the strip's version is not 1"),
-            Refusal::Code { level } => write!(f, "level {level} has a refused code"),
-            Refusal::Fetch { node } => write!(f, "node {node} has no 32-bit value in its part"),
-            Refusal::Time { node } => write!(f, "the time of node {node} is not a 32-bit number"),
-            Refusal::TimesFall { position } => {
-                write!(f, "the strip's times fall at position {position}")
-            }
-            Refusal::Image => write!(f, "the strip is not what its list packs to"),
-            Refusal::Length => write!(f, "the strip's length is not its header and parts"),
-            Refusal::Position => write!(f, "the position is not below the pin count"),
-            Refusal::Answers => write!(f, "there are not as many answers as targets"),
-            Refusal::TargetsFall { index } => write!(f, "the targets fall at index {index}"),
-        }
-    }
+        index
+    } => "the targets fall at index {index}";
 }
 
 impl Error for Refusal {}
@@ -165,23 +125,63 @@ impl Error for Refusal {}
 mod tests {
     use super::*;
 
-    const NUMBERS: [usize; 16] = [1, 2, 3, 4, 5, 6, 7, 8, 9, 10, 11, 12, 13, 14, 15, 16];
-    const CARRYING: [usize; 7] = [3, 4, 8, 9, 10, 11, 16];
+    const HEADER: &str = include_str!("../../../include/gemcotton.h");
+
+    /// The number of each name in the header, where it stands as `  NAME = 5, ...`.
+    fn number(name: &str) -> usize {
+        let stands = |line: &&str| line.trim().starts_with(&format!("{name} = "));
+        let line = HEADER.lines().find(stands).expect("a refusal's number");
+        let digits = line.split(" = ").nth(1).expect("a number");
+        let digits: String = digits.chars().take_while(char::is_ascii_digit).collect();
+        digits.parse().expect("a number")
+    }
+
+    /// The numbers and sentences of the header, which stand as `  case NAME: return "...";`.
+    fn sentences() -> Vec<(usize, &'static str)> {
+        let sentence = |line: &'static str| {
+            let (name, sentence) = line.trim().strip_prefix("case ")?.split_once(": return \"")?;
+            Some((number(name), sentence.strip_suffix("\";")?))
+        };
+        HEADER.lines().filter_map(sentence).collect()
+    }
+
+    /// The refusals that there are, each carrying this or 0.
+    fn refusals(carried: usize) -> impl Iterator<Item = Refusal> {
+        let refusal = move |number| Refusal::new(number, carried).or(Refusal::new(number, 0));
+        (0..1000).filter_map(refusal)
+    }
 
     #[test]
-    fn refusals_keep_their_number_and_what_they_carry() {
-        for number in 0..=20 {
-            for carried in [0, 1, 7, usize::MAX] {
-                let allowed =
-                    NUMBERS.contains(&number) && (carried == 0 || CARRYING.contains(&number));
-                let refusal = Refusal::new(number, carried);
-                let found = refusal.map(|refusal| (refusal.number(), refusal.carried()));
-                assert_eq!(found, allowed.then_some((number, carried)));
-                // What is carried is told.
-                if let (Some(refusal), 7) = (refusal, carried) {
-                    assert!(refusal.to_string().contains('7'), "{refusal}");
-                }
+    fn numbers_and_what_is_carried() {
+        for carried in [0, 1, 7, usize::MAX] {
+            for refusal in refusals(carried) {
+                let (number, carried) = (refusal.number(), refusal.carried());
+                assert_eq!(Refusal::new(number, carried), Some(refusal));
             }
         }
+    }
+
+    #[test]
+    fn sentences_of_the_header() {
+        let mut told = Vec::new();
+        for (number, format) in sentences() {
+            told.push((number, format.replace("%zu", "7")));
+            assert!(format.matches('%').count() <= 1, "{format}");
+        }
+        told.sort();
+        let shown: Vec<(usize, String)> = refusals(7)
+            .map(|refusal| (refusal.number(), refusal.to_string()))
+            .collect();
+        assert_eq!(told, shown);
+    }
+
+    #[test]
+    fn numbers_of_the_header() {
+        let names = HEADER.lines().filter_map(|line| line.trim().split_once(" = "));
+        let names = names.map(|(name, _)| name).filter(|name| name.starts_with("GEMCOTTON_"));
+        let mut numbers: Vec<usize> = names.map(number).collect();
+        numbers.retain(|&number| number != 0);
+        let ours: Vec<usize> = refusals(0).map(|refusal| refusal.number()).collect();
+        assert_eq!(numbers, ours);
     }
 }

@@ -2,7 +2,7 @@
 
 use std::iter::FusedIterator;
 
-use crate::header::{gemcotton_step, STEP};
+use crate::header::gemcotton_step;
 use crate::{Accessed, Refusal};
 
 /// A pin walker: the strip that it walks, and the next position, 0 at the start.
@@ -77,7 +77,7 @@ impl<'a> Walker<'a> {
         // null. Only `next` is written, and it overlaps nothing.
         let answer =
             unsafe { gemcotton_step(&mut self.next, self.strip.as_ptr(), self.strip.len()) };
-        answer.time_or_end(&STEP)
+        answer.time_or_end()
     }
 }
 

@@ -189,9 +189,13 @@ pub fn sweep(
     Ok(tree::sweep(strip, &levels, targets, written)?)
 }
 
+/// Gives the time at a position, or refuses. Check, unpack and repeat are told whose access they
+/// go by: `access` above, or a quicker one that does the same.
+pub type Access = fn(&[u8], usize) -> Result<(u32, usize), Refusal>;
+
 /// The time that follows these, which are the strip's first ones. Check, unpack and repeat find
 /// "for i from 0, access's refusal, then 11".
-fn next(strip: &[u8], times: &[u32]) -> Result<u32, Refusal> {
+fn next(strip: &[u8], times: &[u32], access: Access) -> Result<u32, Refusal> {
     let i = times.len();
     let (time, _) = access(strip, i)?;
     // 11: "times fall", with the "lower position".
@@ -203,11 +207,11 @@ fn next(strip: &[u8], times: &[u32]) -> Result<u32, Refusal> {
 
 /// The list of a strip that check does not refuse: "for i from 0, access's refusal, then 11;
 /// after all, 12."
-fn list(strip: &[u8]) -> Result<Vec<u32>, Refusal> {
+fn list(strip: &[u8], access: Access) -> Result<Vec<u32>, Refusal> {
     let n = open(strip)?.pins;
     let mut times = Vec::new();
     for _ in 0..n {
-        times.push(next(strip, &times)?);
+        times.push(next(strip, &times, access)?);
     }
     // 12: "bytes other than the list's image".
     let image = pack(&times, usize::MAX).expect("a list");
@@ -218,13 +222,13 @@ fn list(strip: &[u8]) -> Result<Vec<u32>, Refusal> {
 }
 
 /// "Check: [...] Gives n."
-pub fn check(strip: &[u8]) -> Result<usize, Refusal> {
-    Ok(list(strip)?.len())
+pub fn check(strip: &[u8], access: Access) -> Result<usize, Refusal> {
+    Ok(list(strip, access)?.len())
 }
 
 /// "Unpack: check, then 4. Writes the first n entries". These, where the output has this room.
-pub fn unpack(strip: &[u8], room: usize) -> Result<Vec<u32>, Refusal> {
-    let times = list(strip)?;
+pub fn unpack(strip: &[u8], room: usize, access: Access) -> Result<Vec<u32>, Refusal> {
+    let times = list(strip, access)?;
     // 4: "output shorter than needed", with the "[...] entries (unpack) needed".
     if room < times.len() {
         return refused(4, times.len());
@@ -234,11 +238,11 @@ pub fn unpack(strip: &[u8], room: usize) -> Result<Vec<u32>, Refusal> {
 
 /// "Repeat r: the first i >= 1 with time i minus time i-1 below r, or none. For each i from 0
 /// it gives access's refusal, then 11, then tests r."
-pub fn repeat(strip: &[u8], r: u32) -> Result<Option<usize>, Refusal> {
+pub fn repeat(strip: &[u8], r: u32, access: Access) -> Result<Option<usize>, Refusal> {
     let n = open(strip)?.pins;
     let mut times = Vec::new();
     for i in 0..n {
-        times.push(next(strip, &times)?);
+        times.push(next(strip, &times, access)?);
         if i >= 1 && times[i] - times[i - 1] < r {
             return Ok(Some(i));
         }

@@ -145,37 +145,10 @@ pub fn parts_of_values(
     (1..=height(values.len())).map(part).collect()
 }
 
-/// The bytes and levels of the tree of these times, with codes as in `parts_of_values`.
-pub fn levels_of(times: &[u32], code_for: impl FnMut(usize, &[u32]) -> u8) -> (Vec<u8>, Levels) {
-    levels_of_values(&stored(times), code_for)
-}
-
-/// As `levels_of`, for nodes that store these values, whether or not a list makes them.
-pub fn levels_of_values(
-    values: &[u32],
-    code_for: impl FnMut(usize, &[u32]) -> u8,
-) -> (Vec<u8>, Levels) {
-    // A part "begins mid-strip", so level 1 does not begin at 0.
-    let mut s = vec![0xC5, 0x3A, 0xFF];
-    let mut levels = Levels {
-        pins: values.len(),
-        codes: [255; HEIGHT],
-        ends: [0; HEIGHT + 1],
-    };
-    levels.ends[0] = s.len();
-    for (level, (code, part)) in (1..).zip(parts_of_values(values, code_for)) {
-        s.extend(part);
-        levels.codes[level - 1] = code;
-        levels.ends[level] = s.len();
-    }
-    (s, levels)
-}
-
 /// Refusals 9 and 10, with the node they carry.
 #[derive(Debug, PartialEq, Clone, Copy)]
 pub enum Refusal {
-    /// "Fetch passes its part, or its value is 2^32 or more". A refused code is here too:
-    /// with it a fetch gives no value.
+    /// "Fetch passes its part, or its value is 2^32 or more".
     Fetch(usize),
     /// "Time below 0 or above 4,294,967,295".
     Time(usize),

@@ -1,0 +1,248 @@
+//! What the calls are asked: more of a strip that reads as a list, where the list alone tells the
+//! answers, and less where the slow reference must tell them.
+
+use super::Input;
+use crate::corpus::Case;
+use crate::lists::sorted;
+use crate::random::Random;
+use crate::reference::strip::PINS;
+use crate::reference::tree::height;
+use crate::strips::pins;
+
+fn numbers(numbers: impl IntoIterator<Item = usize>) -> Vec<Input> {
+    let input = |number| Input {
+        number,
+        ..Input::default()
+    };
+    numbers.into_iter().map(input).collect()
+}
+
+fn rooms(list: &[u32], rooms: impl IntoIterator<Item = usize>) -> Vec<Input> {
+    let input = |room| Input {
+        list: list.to_vec(),
+        room,
+        ..Input::default()
+    };
+    rooms.into_iter().map(input).collect()
+}
+
+// ---- Lists and their room ----
+
+/// Where the list packs, room for too little, just enough and more.
+pub fn pack(case: &Case, random: &mut Random) -> Vec<Input> {
+    let Some(list) = &case.list else {
+        return Vec::new();
+    };
+    let ample = 7 + 5 * height(list.len()) + 4 * list.len();
+    if !case.reads() {
+        return rooms(list, [0, random.below(60), ample]);
+    }
+    // A strip in other codes is no other list, and a long list is packed but a few times.
+    let length = case.image.len();
+    match list.len() {
+        _ if case.refused.is_some() => Vec::new(),
+        0..=300 => {
+            let short = random.below(length);
+            rooms(list, [0, 1, short, length - 1, length, length + 1, ample])
+        }
+        _ => rooms(list, [[0, length - 1][random.below(2)], length]),
+    }
+}
+
+pub fn check(_: &Case, _: &mut Random) -> Vec<Input> {
+    vec![Input::default()]
+}
+
+/// Room for none, for one too few, for all and for more.
+pub fn unpack(case: &Case, random: &mut Random) -> Vec<Input> {
+    let n = pins(&case.strip);
+    let (short, enough) = ([0, n.saturating_sub(1)], [n, n + 3]);
+    match n {
+        0..=300 if case.reads() => rooms(&[], short.into_iter().chain(enough)),
+        _ if case.reads() => rooms(&[], [short[random.below(2)], enough[random.below(2)]]),
+        _ => rooms(&[], [[short, enough].concat()[random.below(4)]]),
+    }
+}
+
+/// Gaps and one more than they, all of a short list, some of a long one; and other numbers.
+pub fn repeat(case: &Case, random: &mut Random) -> Vec<Input> {
+    let mut asked = vec![0, 1, 1_340, u32::MAX as usize];
+    if !case.reads() {
+        asked.push(random.of_width(6) as usize);
+        // It reads all positions each time.
+        asked.truncate(if pins(&case.strip) > 1000 { 2 } else { 5 });
+        return numbers(asked);
+    }
+    let times = case.list.as_deref().unwrap_or_default();
+    let gaps = times.windows(2).map(|pair| (pair[1] - pair[0]) as usize);
+    let mut gaps: Vec<usize> = gaps.collect();
+    gaps.sort();
+    gaps.dedup();
+    let most = match times.len() {
+        0..=30 => 30,
+        31..=300 => 4,
+        _ => 1,
+    };
+    // The least gap stays.
+    while gaps.len() > most {
+        gaps.swap_remove(1 + random.below(gaps.len() - 1));
+    }
+    let greatest = u32::MAX as usize;
+    asked.extend(gaps.into_iter().flat_map(|gap| [gap, greatest.min(gap + 1)]));
+    numbers(asked)
+}
+
+// ---- Positions ----
+
+/// Every position of a short list, some of a long one.
+fn some_positions(n: usize, random: &mut Random) -> Vec<usize> {
+    if n <= 20 {
+        return (0..n).collect();
+    }
+    let mut positions = vec![0, 1, n / 2, n - 2, n - 1];
+    positions.extend((0..5).map(|_| random.below(n)));
+    positions
+}
+
+fn positions(case: &Case, random: &mut Random) -> Vec<usize> {
+    let n = pins(&case.strip);
+    let mut positions = some_positions(n, random);
+    if case.reads() && n > 20 {
+        positions.extend((0..n).step_by(1 + n / 300));
+    }
+    positions
+}
+
+/// Positions at n or beyond it.
+fn beyond(n: usize) -> [usize; 9] {
+    [
+        n,
+        n + 1,
+        PINS,
+        usize::MAX - 1,
+        usize::MAX,
+        // Kept in 16 or 32 bits, these would be below n.
+        1 << 16,
+        (1 << 16) + n / 2,
+        1 << 32,
+        (1 << 32) + n / 2,
+    ]
+}
+
+pub fn access(case: &Case, random: &mut Random) -> Vec<Input> {
+    let n = pins(&case.strip);
+    numbers(positions(case, random).into_iter().chain(beyond(n)))
+}
+
+pub fn step(case: &Case, random: &mut Random) -> Vec<Input> {
+    access(case, random)
+}
+
+/// From the start or anywhere, and from the end or beyond. Where the reference is slow, near the
+/// end.
+pub fn walk(case: &Case, random: &mut Random) -> Vec<Input> {
+    let n = pins(&case.strip);
+    let from = match n {
+        0..=300 => [0, random.below(n + 1)][random.below(2)],
+        PINS if case.reads() => 0,
+        _ => n - random.below(4),
+    };
+    numbers([from, beyond(n)[random.below(9)]])
+}
+
+// ---- Targets ----
+
+/// Two times or more, in order: those of the list, or some of the strip's, or others.
+fn times(case: &Case, random: &mut Random) -> Vec<u32> {
+    let mut times = match &case.list {
+        Some(list) if case.reads() => list.clone(),
+        _ => {
+            let positions = some_positions(pins(&case.strip), random).into_iter();
+            let found = positions.flat_map(|i| gemcotton::access(&case.strip, i));
+            found.map(|found| found.time).collect()
+        }
+    };
+    times.resize(times.len().max(2), random.skewed());
+    sorted(times)
+}
+
+/// Times, one more and one less, the ends, and random targets.
+pub fn search(case: &Case, random: &mut Random) -> Vec<Input> {
+    let times = times(case, random);
+    let mut targets = vec![0, u32::MAX, random.skewed(), random.of_width(32)];
+    for &time in times.iter().step_by(1 + times.len() / 300) {
+        let near = [time.saturating_sub(1), time, time.saturating_add(1)];
+        match case.reads() {
+            true => targets.extend(near),
+            false => targets.push(near[random.below(3)]),
+        }
+    }
+    numbers(targets.into_iter().map(|target| target as usize))
+}
+
+pub fn up_to(case: &Case, random: &mut Random) -> Vec<Input> {
+    search(case, random)
+}
+
+/// The sorts of targets for a sweep; the last is of all others.
+const SORTS: usize = 7;
+
+/// A target of this sort, for these times.
+fn target(times: &[u32], sort: usize, random: &mut Random) -> u32 {
+    let n = times.len();
+    let time = times[random.below(n)];
+    let up_to = |limit: u32, random: &mut Random| random.below(limit as usize + 1) as u32;
+    match sort {
+        0 => time,
+        1 => [time.saturating_sub(1), time.saturating_add(1)][random.below(2)],
+        // At or before the first time, and at or past the last.
+        2 => up_to(times[0], random),
+        3 => !up_to(!times[n - 1], random),
+        4 => [0, u32::MAX][random.below(2)],
+        // Anywhere among the times.
+        5 => up_to(times[n - 1], random),
+        _ => target(times, random.below(SORTS - 1), random),
+    }
+}
+
+/// So many targets for a sweep, of one sort. In half of the calls about half of the targets equal
+/// another.
+fn targets(times: &[u32], count: usize, random: &mut Random) -> Vec<u32> {
+    let (sort, repeated) = (random.below(SORTS), random.below(2) == 0);
+    let mut targets = Vec::new();
+    for _ in 0..count {
+        match targets.last() {
+            Some(&before) if repeated && random.below(2) == 0 => targets.push(before),
+            _ => targets.push(target(times, sort, random)),
+        }
+    }
+    sorted(targets)
+}
+
+/// Sweeps of none to many targets. One in ten has another number of answers, and one in ten has
+/// targets in no order.
+pub fn sweep(case: &Case, random: &mut Random) -> Vec<Input> {
+    let times = times(case, random);
+    // From 64 targets on a sweep has marks.
+    let counts = match pins(&case.strip) {
+        0..=300 if case.reads() => vec![0, 1, 2, 3, 10, 100, random.below(2000)],
+        _ if case.reads() => vec![1 + random.below(3), 10, 500],
+        0..=300 => vec![1, 2, 3, random.below(10), random.below(130), random.below(130)],
+        _ => vec![1, 2, random.below(11)],
+    };
+    let mut inputs = Vec::new();
+    for count in counts {
+        let (mut list, mut room) = (targets(&times, count, random), count);
+        match random.below(10) {
+            0 => room = [0, 1, count + 1, count + 2, random.below(300)][random.below(5)],
+            1 => list.fill_with(|| times[random.below(times.len())]),
+            _ => {}
+        }
+        inputs.extend(rooms(&list, [room]));
+    }
+    // All times once, which opens every node.
+    if case.reads() && times.windows(2).all(|pair| pair[0] < pair[1]) {
+        inputs.extend(rooms(&times, [times.len()]));
+    }
+    inputs
+}

@@ -1,0 +1,99 @@
+//! Runs a call of the table over the corpus: the proved library must do what the reference does,
+//! and what the list alone tells where a strip reads as one.
+
+use std::collections::BTreeMap;
+
+use crate::calls::{Call, Input, Outcome};
+use crate::corpus::{Case, KINDS};
+use crate::plain::Plain;
+use crate::random::Random;
+use crate::reference::strip::Refusal;
+use crate::strips::pins;
+
+/// How often the corpus must lead to each refusal of a call.
+const LEAST: usize = 100;
+
+/// The numbers that opening refuses with, which every reading call does first.
+const OPENING: [usize; 6] = [5, 6, 7, 1, 8, 13];
+
+/// How often a call ended so: by the numbers of refusals, and with an answer at 0.
+pub type Tally = BTreeMap<usize, usize>;
+
+/// Compares the call on the whole corpus. It must often be refused with each of its numbers, and
+/// with no other one.
+pub fn compare(call: &Call) {
+    let mut tally = Tally::new();
+    for kind in KINDS {
+        let mut asked = Random(kind.name.len() as u64);
+        (kind.cases)(&mut Random(1), &mut |case| {
+            compare_case(call, kind.name, &case, &mut tally, &mut asked);
+        });
+    }
+    println!("{}: {} times: {tally:?}", call.name, tally.values().sum::<usize>());
+    let numbers: Vec<usize> = tally.keys().copied().filter(|&number| number > 0).collect();
+    assert_eq!(numbers, call.refusals, "{}: {tally:?}", call.name);
+    let least = tally.values().all(|&count| count >= LEAST);
+    assert!(least, "{}: {tally:?}", call.name);
+}
+
+/// Asks all inputs, of a strip that has other bytes on both sides.
+fn compare_case(call: &Call, kind: &str, case: &Case, tally: &mut Tally, random: &mut Random) {
+    let before = random.below(8);
+    let memory = [&random.bytes(before), &case.strip[..], &random.bytes(8)].concat();
+    let strip = &memory[before..before + case.strip.len()];
+    let inputs = (call.inputs)(case, random);
+    let list = case.list.as_deref().filter(|_| case.reads());
+    let plain = list.map(|list| Plain::new(list, &case.image, case.refused));
+    let seen = seen_by_reference(inputs.len(), pins(strip), plain.is_some());
+    for (i, input) in inputs.iter().enumerate() {
+        let found = (call.proved)(strip, input);
+        let place = || format!("{} in {kind}: {}, {}", call.name, told(input), front(strip));
+        if let Some(plain) = &plain {
+            agree(&found, &(call.plain)(plain, input), place);
+        }
+        if i % seen == 0 {
+            agree(&found, &(call.reference)(strip, input), place);
+        }
+        if let Some(refusal) = case.refused.filter(|refusal| is_told(call, refusal)) {
+            assert_eq!(found.given, Err(refusal), "{}", place());
+        }
+        let number = found.given.map_or_else(|refusal| refusal.number, |_| 0);
+        *tally.entry(number).or_default() += 1;
+    }
+}
+
+/// The reference sees every input so far from the last one. It is slow, and where a list tells what
+/// a long strip must answer, it sees few.
+fn seen_by_reference(inputs: usize, pins: usize, has_list: bool) -> usize {
+    match pins {
+        _ if !has_list => 1,
+        0..=60 => 1,
+        61..=1000 => 1 + inputs / 30,
+        _ => 1 + inputs / 3,
+    }
+}
+
+/// Whether what check is refused with tells what the call is refused with.
+fn is_told(call: &Call, refusal: &Refusal) -> bool {
+    call.name == "check" || OPENING.contains(&refusal.number)
+}
+
+fn agree(found: &Outcome, expected: &Outcome, place: impl Fn() -> String) {
+    assert_eq!(found.given, expected.given, "{}", place());
+    let differs = |i: &usize| found.memory.get(*i) != expected.memory.get(*i);
+    let length = found.memory.len().max(expected.memory.len());
+    assert_eq!((0..length).find(differs), None, "memory: {}", place());
+}
+
+/// Names the input. Of many numbers the front is told.
+fn told(input: &Input) -> String {
+    let (count, front) = (input.list.len(), &input.list[..input.list.len().min(100)]);
+    let Input { number, room, .. } = input;
+    format!("number {number}, room {room}, list of {count}: {front:?}")
+}
+
+/// Names the bytes. Of many the front is told.
+fn front(strip: &[u8]) -> String {
+    let length = strip.len();
+    format!("{length} bytes: {:02X?}", &strip[..length.min(300)])
+}

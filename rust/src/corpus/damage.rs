@@ -1,0 +1,232 @@
+//! Strips with damage of which the making does not tell what it leads to.
+
+use super::{Case, Visit};
+use crate::lists::{around_powers, few_pins, rising};
+use crate::parts::{chosen, least_width};
+use crate::random::Random;
+use crate::reference::strip::{image, PINS};
+use crate::reference::tree::{height, parts_of_values, stored, HEIGHT};
+use crate::strips::{change_bytes, many_levels, packed, set_length, small_strips, Level};
+
+/// Small strips with every change of one byte.
+pub fn every_byte(random: &mut Random, visit: Visit) {
+    for strip in small_strips(random) {
+        for place in 0..strip.len() {
+            for change in 1..=255 {
+                let mut strip = strip.clone();
+                strip[place] ^= change;
+                visit(Case::strip(strip));
+            }
+        }
+    }
+}
+
+/// Damages the levels of lists of all sorts, in so many rounds.
+fn damaged(
+    rounds: usize,
+    random: &mut Random,
+    visit: Visit,
+    damage: fn(&mut Vec<Level>, usize, &mut Random),
+) {
+    for n in few_pins() {
+        for levels in many_levels(n, random) {
+            for round in 0..rounds {
+                let mut levels = levels.clone();
+                damage(&mut levels, round, random);
+                visit(Case::strip(image(n, &levels)));
+            }
+        }
+    }
+}
+
+/// One part is cut short, or as it was.
+pub fn cut_parts(random: &mut Random, visit: Visit) {
+    damaged(4, random, visit, |levels, round, random| {
+        let level = random.below(levels.len());
+        let part = &mut levels[level].1;
+        let length = part.len();
+        part.truncate([0, length / 2, length.saturating_sub(1), random.below(length + 1)][round]);
+    });
+}
+
+/// One part, or as often every one, is random bytes, somewhat fewer or more.
+pub fn random_parts(random: &mut Random, visit: Visit) {
+    damaged(4, random, visit, |levels, round, random| {
+        let one = random.below(2 * levels.len());
+        let all = one >= levels.len();
+        for (level, (_, part)) in levels.iter_mut().enumerate() {
+            if all || level == one {
+                let length = (part.len() + random.below(6)).saturating_sub(2);
+                *part = random.dense_bytes(length, [1, 3, 8, 13][round]);
+            }
+        }
+    });
+}
+
+/// Bytes of one part go to the next one, or of all parts to others.
+pub fn moved_parts(random: &mut Random, visit: Visit) {
+    damaged(4, random, visit, |levels, round, random| {
+        let (h, bytes) = (levels.len(), levels.iter().flat_map(|level| &level.1));
+        let bytes: Vec<u8> = bytes.copied().collect();
+        let mut end = 0;
+        let mut ends: Vec<usize> = levels.iter().map(|level| level.1.len()).collect();
+        ends.iter_mut().for_each(|length| {
+            end += *length;
+            *length = end;
+        });
+        let one = random.below(h);
+        for (level, end) in ends[..h - 1].iter_mut().enumerate() {
+            if round % 2 == 0 || level == one {
+                *end = random.below(bytes.len() + 1);
+            }
+        }
+        ends.sort();
+        let mut start = 0;
+        for ((_, part), end) in levels.iter_mut().zip(ends) {
+            *part = bytes[start..end].to_vec();
+            start = end;
+        }
+    });
+}
+
+/// One level has another code byte: one on either side of the limits, or any.
+pub fn other_code_bytes(random: &mut Random, visit: Visit) {
+    damaged(4, random, visit, |levels, _, random| {
+        let level = random.below(levels.len());
+        let any = random.draw() as u8;
+        let limits = [0, 1, 32, 33, 64, 65, 72, 73, 255];
+        let codes = [&limits[..], &[any % 33, 65 + any % 8, any]].concat();
+        levels[level].0 = codes[random.below(codes.len())];
+    });
+}
+
+/// Another pin count, with as many levels as this has: of no bytes where there were fewer.
+pub fn wrong_pin_counts(random: &mut Random, visit: Visit) {
+    for n in few_pins() {
+        for levels in many_levels(n, random) {
+            let any = random.below(PINS + 1);
+            for pins in [n - 1, n + 1, n / 2, 2 * n, 2 * n + 1, any, PINS] {
+                let mut levels = levels.clone();
+                let code = [0, 1, 65, 72][random.below(4)];
+                levels.resize(height(pins), (code, Vec::new()));
+                visit(Case::strip(image(pins, &levels)));
+            }
+        }
+    }
+}
+
+/// Up to three bytes are changed. In half of the rounds the header stays whole.
+pub fn changed_bytes(random: &mut Random, visit: Visit) {
+    for n in few_pins() {
+        for levels in many_levels(n, random) {
+            let strip = image(n, &levels);
+            for round in 0..4 {
+                let mut strip = strip.clone();
+                let header = (7 + 5 * height(n)).min(strip.len() - 1);
+                change_bytes(&mut strip, round % 2 * header, random);
+                visit(Case::strip(strip));
+            }
+        }
+    }
+}
+
+/// The lowest level, of one to three nodes, is in each chunked code and has every part of up to two
+/// bytes. The others are far from the ends.
+pub fn every_short_part(_: &mut Random, visit: Visit) {
+    let root = (32, vec![0x80, 0, 0, 0]);
+    let above = [vec![], vec![root.clone()], vec![root, (0, vec![])]];
+    for (n, above) in [1, 3, 6].into_iter().zip(above) {
+        for code in 65..=72 {
+            let mut with = |part: &[u8]| {
+                let lowest = (code, part.to_vec());
+                visit(Case::strip(image(n, &[&above[..], &[lowest]].concat())));
+            };
+            with(&[]);
+            (0..=255).for_each(|byte| with(&[byte]));
+            (0..=65_535u16).for_each(|bytes| with(&bytes.to_be_bytes()));
+        }
+    }
+}
+
+/// Gives a level of a long list another code or a shorter part, or changes bytes of it and of
+/// those below it, round by round.
+fn damage_level(levels: &mut [Level], round: usize, random: &mut Random) {
+    let level = random.below(levels.len());
+    let (code, part) = &mut levels[level];
+    match round % 3 {
+        0 => *code = 65 + random.draw() as u8 % 8,
+        1 => part.truncate(random.below(part.len() + 1)),
+        _ => {
+            for (_, part) in &mut levels[level..] {
+                for _ in 0..=part.len() / 300 {
+                    let place = random.below(part.len());
+                    part[place] = random.draw() as u8;
+                }
+            }
+        }
+    }
+}
+
+/// Long lists with a damaged level, in the chosen codes and in fixed ones, and the longest list
+/// with bytes changed.
+pub fn damaged_long_lists(random: &mut Random, visit: Visit) {
+    let codes: [fn(usize, &[u32]) -> u8; 2] = [chosen, |_, values| least_width(values)];
+    for code_for in codes {
+        for n in [1000, 6144, 40_000, PINS] {
+            let times = rising(n, || random.skewed() & random.of_width(14));
+            let levels = parts_of_values(&stored(&times), code_for);
+            for round in 0..12 {
+                let mut levels = levels.clone();
+                damage_level(&mut levels, round, random);
+                visit(Case::strip(image(n, &levels)));
+            }
+        }
+    }
+    let strip = packed(&rising(PINS, || random.skewed() & random.of_width(14)));
+    for _ in 0..20 {
+        let mut strip = strip.clone();
+        change_bytes(&mut strip, 7 + 5 * HEIGHT, random);
+        visit(Case::strip(strip));
+    }
+}
+
+/// Strips with random codes and short random parts, and often one more fault.
+pub fn random_strips(random: &mut Random, visit: Visit) {
+    let counts = around_powers(PINS);
+    for _ in 0..20_000 {
+        visit(Case::strip(random_strip(&counts, random)));
+    }
+}
+
+/// Half of the pin counts are small, and a quarter are of these.
+fn random_strip(counts: &[usize], random: &mut Random) -> Vec<u8> {
+    let n = match random.below(4) {
+        0 => random.below(PINS + 1),
+        1 => counts[random.below(counts.len())],
+        _ => random.below(20),
+    };
+    let mut level = |_| {
+        let any = random.draw() as u8;
+        let code = match random.below(60) {
+            0 => any,
+            1..=30 => any % 33,
+            _ => 65 + any % 8,
+        };
+        let length = random.below(9);
+        (code, random.bytes(length))
+    };
+    let levels: Vec<Level> = (0..height(n)).map(&mut level).collect();
+    let mut strip = image(n, &levels);
+    let (length, h) = (strip.len(), levels.len());
+    match random.below(12) {
+        0 => strip[random.below(3)] = random.draw() as u8,
+        1 => strip[3 + random.below(2)] = random.draw() as u8,
+        2 => strip[5 + random.below(2)] = random.draw() as u8,
+        3 => strip.truncate(random.below(length)),
+        4 => strip.push(0),
+        5 if h > 0 => set_length(&mut strip, 1 + random.below(h), random.skewed()),
+        6 => strip.splice(5.., random.bytes(length)).for_each(drop),
+        _ => {}
+    }
+    strip
+}

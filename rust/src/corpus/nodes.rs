@@ -1,0 +1,141 @@
+//! Strips with a node that is refused with 9 or 10, or that stores another value.
+
+use super::{Case, Visit};
+use crate::lists::{any_values, few_lists, few_pins};
+use crate::parts::{any_code, chosen, chunks, set_bit};
+use crate::random::Random;
+use crate::reference::strip::{image, PINS};
+use crate::reference::tree::{nodes_of_level, stored, HEIGHT};
+use crate::strips::{
+    most_stored, past_the_greatest_time, refused_at, strip_of_values, with_chunks, with_value,
+    zeros,
+};
+
+/// A node's number is at 2^32 - 1 or past it, also with chunks of zeros on top.
+pub fn values_around_the_greatest(random: &mut Random, visit: Visit) {
+    let past = [1 << 32, 1 << 33, 1 << 40, 1 << 63];
+    let near = past.iter().flat_map(|&p: &u64| [p - 1, p, p + 1]);
+    let numbers: Vec<u64> = near.chain([u64::MAX, (1 << 32) - 2, 3 << 31]).collect();
+    for n in few_pins() {
+        for b in 1..=8 {
+            let times = few_lists(n, 1, random).remove(0);
+            let v = 1 + random.below(n);
+            for &number in &numbers {
+                for zeros in [0, [1, 40][random.below(2)]] {
+                    let chain = [chunks(number, b), vec![0; zeros]].concat();
+                    let strip = with_chunks(&times, v, chain, b, random);
+                    visit(match number {
+                        0x1_0000_0000.. => Case::refused(strip, 9, v),
+                        _ => Case::strip(strip),
+                    });
+                }
+            }
+        }
+    }
+}
+
+/// A node's number has one bit far above its others. Past 64, 256 and 65,536 a shift kept in too
+/// small a number would begin again.
+pub fn bits_far_above(random: &mut Random, visit: Visit) {
+    for place in (24..=140).chain(250..=300).chain([65_535, 65_540, 65_570]) {
+        for b in 1..=8 {
+            // The longest chains are read alone, to save time.
+            let n = if place < 1000 { [1, 2, 9, 65][random.below(4)] } else { 1 };
+            let times = few_lists(n, 1, random).remove(0);
+            let v = 1 + random.below(n);
+            let mut chain = chunks(random.of_width(24).into(), b);
+            set_bit(&mut chain, place, b);
+            let strip = with_chunks(&times, v, chain, b, random);
+            visit(match place {
+                32.. => Case::refused(strip, 9, v),
+                _ => Case::strip(strip),
+            });
+        }
+    }
+}
+
+/// One node is refused with 9, or with 10 where its time can pass an end.
+pub fn refused_nodes(random: &mut Random, visit: Visit) {
+    for n in few_pins() {
+        for times in few_lists(n, 4, random) {
+            for v in (1..=n).step_by(1 + n / 30) {
+                for (strip, number) in refused_at(&times, v, random) {
+                    visit(Case::refused(strip, number, v));
+                }
+            }
+        }
+    }
+}
+
+/// In the longest list, one level has no part or lacks its last byte, or a node of it, at the
+/// level's ends or in its middle, passes an end of the times.
+pub fn refused_at_every_level(_: &mut Random, visit: Visit) {
+    let zeros = zeros();
+    for level in 1..=HEIGHT {
+        let (first, last) = nodes_of_level(PINS, level).into_inner();
+        let mut with = |root: u8, change: &dyn Fn(&mut Vec<u8>), number, carried| {
+            let mut levels = zeros.clone();
+            levels[0] = (32, vec![root; 4]);
+            change(&mut levels[level - 1].1);
+            visit(Case::refused(image(PINS, &levels), number, carried));
+        };
+        with(0, &|part| part.clear(), 9, first);
+        if level > 1 {
+            with(0, &|part| _ = part.pop(), 9, first.max(last.saturating_sub(7)));
+            with(0, &|part| part[0] |= 0x80, 10, first);
+            // Its first right child right of the root.
+            let index = 1 << (level - 2) | 1;
+            let right = |part: &mut Vec<u8>| part[index / 8] |= 0x80 >> (index % 8);
+            with(0xFF, &right, 10, first + index);
+            visit(Case::refused(past_the_greatest_time(level), 10, last));
+        }
+    }
+}
+
+/// A node's time is just at an end, where the nodes below may pass it, or one past it.
+pub fn times_at_the_ends(random: &mut Random, visit: Visit) {
+    for n in few_pins() {
+        for times in few_lists(n, 3, random) {
+            for v in (2..=n).step_by(1 + n / 30) {
+                let most = most_stored(&times, v);
+                visit(Case::strip(with_value(&times, v, most, random)));
+                if let Some(more) = most.checked_add(1) {
+                    visit(Case::refused(with_value(&times, v, more, random), 10, v));
+                }
+            }
+        }
+    }
+}
+
+/// One or two nodes store somewhat more or less.
+pub fn values_changed(random: &mut Random, visit: Visit) {
+    for n in few_pins() {
+        for times in few_lists(n, 8, random) {
+            for round in 0..12 {
+                let mut values = stored(&times);
+                for _ in 0..=random.below(2) {
+                    let value = &mut values[random.below(n)];
+                    let by = random.of_width(1 + round);
+                    *value = match random.below(2) {
+                        0 => value.saturating_add(by),
+                        _ => value.saturating_sub(by),
+                    };
+                }
+                visit(Case::strip(match round % 2 {
+                    0 => strip_of_values(&values, chosen),
+                    _ => strip_of_values(&values, any_code(random)),
+                }));
+            }
+        }
+    }
+}
+
+/// The nodes store values that no list need make.
+pub fn values_of_no_list(random: &mut Random, visit: Visit) {
+    for n in 1..=70 {
+        for round in 0..45 {
+            let values = any_values(n, round, random);
+            visit(Case::strip(strip_of_values(&values, any_code(random))));
+        }
+    }
+}
