@@ -4,7 +4,7 @@
 use std::collections::BTreeMap;
 
 use crate::calls::{Call, Input, Outcome};
-use crate::corpus::{Case, KINDS};
+use crate::corpus::{kinds, Case};
 use crate::plain::Plain;
 use crate::random::Random;
 use crate::reference::strip::Refusal;
@@ -23,7 +23,7 @@ pub type Tally = BTreeMap<usize, usize>;
 /// with no other one.
 pub fn compare(call: &Call) {
     let mut tally = Tally::new();
-    for kind in KINDS {
+    for kind in kinds(call.name) {
         let mut asked = Random(kind.name.len() as u64);
         (kind.cases)(&mut Random(1), &mut |case| {
             compare_case(call, kind.name, &case, &mut tally, &mut asked);
@@ -44,14 +44,14 @@ fn compare_case(call: &Call, kind: &str, case: &Case, tally: &mut Tally, random:
     let inputs = (call.inputs)(case, random);
     let list = case.list.as_deref().filter(|_| case.reads());
     let plain = list.map(|list| Plain::new(list, &case.image, case.refused));
-    let seen = seen_by_reference(inputs.len(), pins(strip), plain.is_some());
+    let seen = seen_by_reference(pins(strip), plain.is_some());
     for (i, input) in inputs.iter().enumerate() {
         let found = (call.proved)(strip, input);
         let place = || format!("{} in {kind}: {}, {}", call.name, told(input), front(strip));
         if let Some(plain) = &plain {
             agree(&found, &(call.plain)(plain, input), place);
         }
-        if i % seen == 0 {
+        if i < seen {
             agree(&found, &(call.reference)(strip, input), place);
         }
         if let Some(refusal) = case.refused.filter(|refusal| is_told(call, refusal)) {
@@ -62,14 +62,14 @@ fn compare_case(call: &Call, kind: &str, case: &Case, tally: &mut Tally, random:
     }
 }
 
-/// The reference sees every input so far from the last one. It is slow, and where a list tells what
-/// a long strip must answer, it sees few.
-fn seen_by_reference(inputs: usize, pins: usize, has_list: bool) -> usize {
+/// How many inputs the reference sees. It is slow, and where a list tells what a long strip must
+/// answer, it sees few.
+fn seen_by_reference(pins: usize, has_list: bool) -> usize {
     match pins {
-        _ if !has_list => 1,
-        0..=60 => 1,
-        61..=1000 => 1 + inputs / 30,
-        _ => 1 + inputs / 3,
+        _ if !has_list => usize::MAX,
+        0..=60 => usize::MAX,
+        61..=1000 => 30,
+        _ => 4,
     }
 }
 

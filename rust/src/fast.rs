@@ -93,10 +93,7 @@ fn stored(shape: Shape, times: &[u32]) -> Vec<u32> {
 }
 
 /// Gives the strip's list to `use_list` if it is one that packs to the strip.
-fn with_list<T>(
-    strip: &[u8],
-    use_list: impl FnOnce(Shape, Read) -> Result<T, Refusal>,
-) -> Result<T, Refusal> {
+fn with_list<T>(strip: &[u8], use_list: impl FnOnce(Shape, Read) -> Result<T, Refusal>) -> Result<T, Refusal> {
     let header = open(strip)?;
     let mut memory = list::memory(header.shape, 0);
     match read(strip, &header, true, &mut memory) {

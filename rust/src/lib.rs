@@ -11,3 +11,4 @@ pub mod plain;
 pub mod random;
 pub mod reference;
 pub mod strips;
+pub mod tunes;

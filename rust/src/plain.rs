@@ -26,13 +26,7 @@ impl<'a> Plain<'a> {
             // A tree of v nodes ends with the level that v is in.
             nodes[rank] = height(v);
         }
-        Plain {
-            times,
-            image,
-            refused,
-            ranks,
-            nodes,
-        }
+        Plain { times, image, refused, ranks, nodes }
     }
 
     /// "The path of a search on it begins at node 1, where there are nodes. From each node it goes
@@ -140,18 +134,12 @@ impl<'a> Plain<'a> {
             true => (self.found(i), i + 1),
             false => (Vec::new(), i),
         };
-        Outcome {
-            given: Ok(found),
-            memory: vec![next as u64],
-        }
+        Outcome { given: Ok(found), memory: vec![next as u64] }
     }
 
     pub fn walk(&self, input: &Input) -> Outcome {
         let rest = input.number..self.times.len();
         let item = |i: usize| [self.times[i].into(), self.nodes[i] as u64];
-        Outcome {
-            given: Ok(Vec::new()),
-            memory: rest.flat_map(item).collect(),
-        }
+        Outcome { given: Ok(Vec::new()), memory: rest.flat_map(item).collect() }
     }
 }

@@ -4,9 +4,7 @@ use crate::lists::{lists, mirrored, rising};
 use crate::parts::{any_code, chains, chosen, chunks, part_of_chunks};
 use crate::random::Random;
 use crate::reference::strip::{image, pack, PINS};
-use crate::reference::tree::{
-    height, is_left, nodes_of_level, parts_of_values, rank, stored, values_of_level,
-};
+use crate::reference::tree::{height, is_left, nodes_of_level, parts_of_values, rank, stored, values_of_level};
 
 // ---- Marked strips ----
 
@@ -123,13 +121,7 @@ pub fn is_fixed(strip: &[u8]) -> bool {
 // ---- Refusals at one node ----
 
 /// The list's strip in any codes, but node v has these chunks, of b bits.
-pub fn with_chunks(
-    times: &[u32],
-    v: usize,
-    chain: Vec<u32>,
-    b: u32,
-    random: &mut Random,
-) -> Vec<u8> {
+pub fn with_chunks(times: &[u32], v: usize, chain: Vec<u32>, b: u32, random: &mut Random) -> Vec<u8> {
     let (n, values, level) = (times.len(), stored(times), height(v));
     let mut levels = parts_of_values(&values, any_code(random));
     let mut chains = chains(values_of_level(&values, level), b);

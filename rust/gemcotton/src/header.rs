@@ -64,12 +64,7 @@ extern "C" {
     pub(crate) fn gemcotton_height(n: usize) -> usize;
     pub(crate) fn gemcotton_root_place(n: usize) -> usize;
     pub(crate) fn gemcotton_rank(n: usize, node: usize) -> usize;
-    pub(crate) fn gemcotton_pack(
-        out: *mut u8,
-        out_length: usize,
-        times: *const u32,
-        times_length: usize,
-    ) -> Answer;
+    pub(crate) fn gemcotton_pack(out: *mut u8, out_length: usize, times: *const u32, times_length: usize) -> Answer;
     pub(crate) fn gemcotton_access(strip: *const u8, strip_length: usize, i: usize) -> Answer;
     pub(crate) fn gemcotton_search(strip: *const u8, strip_length: usize, target: u32) -> Answer;
     pub(crate) fn gemcotton_up_to(strip: *const u8, strip_length: usize, time: u32) -> Answer;
@@ -82,15 +77,9 @@ extern "C" {
         targets_length: usize,
     ) -> Answer;
     pub(crate) fn gemcotton_check(strip: *const u8, strip_length: usize) -> Answer;
-    pub(crate) fn gemcotton_unpack(
-        out: *mut u32,
-        out_length: usize,
-        strip: *const u8,
-        strip_length: usize,
-    ) -> Answer;
+    pub(crate) fn gemcotton_unpack(out: *mut u32, out_length: usize, strip: *const u8, strip_length: usize) -> Answer;
     pub(crate) fn gemcotton_repeat(strip: *const u8, strip_length: usize, r: u32) -> Answer;
-    pub(crate) fn gemcotton_step(next: *mut usize, strip: *const u8, strip_length: usize)
-        -> Answer;
+    pub(crate) fn gemcotton_step(next: *mut usize, strip: *const u8, strip_length: usize) -> Answer;
 }
 
 #[cfg(test)]
@@ -100,11 +89,7 @@ mod tests {
 
     /// Whether the answer of these three numbers panics where a call like this reads it.
     fn panics<T>(refusal: usize, value: usize, nodes: usize, read: fn(Answer) -> T) -> bool {
-        let answer = Answer {
-            refusal,
-            value,
-            nodes,
-        };
+        let answer = Answer { refusal, value, nodes };
         catch_unwind(|| read(answer)).is_err()
     }
 
@@ -119,9 +104,7 @@ mod tests {
         assert!(panics(0, 7, 1, Answer::value) && !panics(0, 7, 0, Answer::value));
         assert!(panics(0, 1, 3, Answer::nodes) && !panics(0, 0, 3, Answer::nodes));
         // A time without nodes, and one of more than 32 bits.
-        for read in [Answer::time, |answer: Answer| {
-            answer.time_or_end().map(|found| found.expect("a time"))
-        }] {
+        for read in [Answer::time, |answer: Answer| answer.time_or_end().map(|found| found.expect("a time"))] {
             assert!(panics(0, 7, 0, read) && panics(0, 1 << 32, 3, read));
             assert!(!panics(0, 7, 3, read));
         }
@@ -129,10 +112,6 @@ mod tests {
     }
 
     fn answer_of_end() -> Answer {
-        Answer {
-            refusal: 0,
-            value: 0,
-            nodes: 0,
-        }
+        Answer { refusal: 0, value: 0, nodes: 0 }
     }
 }

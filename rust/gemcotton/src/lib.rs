@@ -92,9 +92,8 @@ pub use refusal::Refusal;
 pub use walker::{Times, Walker};
 
 use header::{
-    gemcotton_access, gemcotton_check, gemcotton_height, gemcotton_pack, gemcotton_rank,
-    gemcotton_repeat, gemcotton_root_place, gemcotton_search, gemcotton_sweep, gemcotton_unpack,
-    gemcotton_up_to,
+    gemcotton_access, gemcotton_check, gemcotton_height, gemcotton_pack, gemcotton_rank, gemcotton_repeat,
+    gemcotton_root_place, gemcotton_search, gemcotton_sweep, gemcotton_unpack, gemcotton_up_to,
 };
 
 /// The greatest pin count of a strip.
@@ -167,8 +166,7 @@ pub fn rank(n: usize, node: usize) -> Option<usize> {
 pub fn pack(out: &mut [u8], times: &[u32]) -> Result<usize, Refusal> {
     // SAFETY: the pointers and lengths are slices', so not null. Only `out` is written, and it
     // overlaps nothing.
-    let answer =
-        unsafe { gemcotton_pack(out.as_mut_ptr(), out.len(), times.as_ptr(), times.len()) };
+    let answer = unsafe { gemcotton_pack(out.as_mut_ptr(), out.len(), times.as_ptr(), times.len()) };
     answer.value()
 }
 
@@ -279,8 +277,7 @@ pub fn check(strip: &[u8]) -> Result<usize, Refusal> {
 pub fn unpack(out: &mut [u32], strip: &[u8]) -> Result<usize, Refusal> {
     // SAFETY: the pointers and lengths are slices', so not null. Only `out` is written, and it
     // overlaps nothing.
-    let answer =
-        unsafe { gemcotton_unpack(out.as_mut_ptr(), out.len(), strip.as_ptr(), strip.len()) };
+    let answer = unsafe { gemcotton_unpack(out.as_mut_ptr(), out.len(), strip.as_ptr(), strip.len()) };
     answer.value()
 }
 

@@ -169,9 +169,7 @@ mod tests {
             assert!(format.matches('%').count() <= 1, "{format}");
         }
         told.sort();
-        let shown: Vec<(usize, String)> = refusals(7)
-            .map(|refusal| (refusal.number(), refusal.to_string()))
-            .collect();
+        let shown: Vec<(usize, String)> = refusals(7).map(|refusal| (refusal.number(), refusal.to_string())).collect();
         assert_eq!(told, shown);
     }
 

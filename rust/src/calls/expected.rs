@@ -4,7 +4,7 @@ use super::{proved, Input, Outcome};
 use crate::reference::strip::{self, Access, Refusal};
 use crate::strips::{is_fixed, pins};
 
-/// The access that check, unpack and repeat go by. The reference reads all bits of a chunked level
+/// The access of calls that may read many positions. The reference reads all bits of a chunked level
 /// anew for each position, so that the proved one, which is compared with it, takes its place in
 /// long strips.
 fn quickest_access(bytes: &[u8]) -> Access {
@@ -12,10 +12,7 @@ fn quickest_access(bytes: &[u8]) -> Access {
         return strip::access;
     }
     |bytes, number| {
-        let input = Input {
-            number,
-            ..Input::default()
-        };
+        let input = Input { number, ..Input::default() };
         let found = proved::access(bytes, &input).given?;
         Ok((found[0] as u32, found[1]))
     }
@@ -79,17 +76,15 @@ pub fn repeat(bytes: &[u8], input: &Input) -> Outcome {
 }
 
 pub fn step(bytes: &[u8], input: &Input) -> Outcome {
-    let (said, next) = strip::step(bytes, input.number);
-    Outcome {
-        given: said.map(|found| found.map_or(Vec::new(), accessed)),
-        memory: vec![next as u64],
-    }
+    let (said, next) = strip::step(bytes, input.number, strip::access);
+    Outcome { given: said.map(|found| found.map_or(Vec::new(), accessed)), memory: vec![next as u64] }
 }
 
 pub fn walk(bytes: &[u8], input: &Input) -> Outcome {
+    let access = quickest_access(bytes);
     let (mut next, mut memory) = (input.number, Vec::new());
     let end: Result<(), Refusal> = loop {
-        let (said, after) = strip::step(bytes, next);
+        let (said, after) = strip::step(bytes, next, access);
         match said {
             Ok(Some((time, nodes))) => memory.extend([time.into(), nodes as u64]),
             Ok(None) => break Ok(()),

@@ -10,19 +10,12 @@ use crate::reference::tree::height;
 use crate::strips::pins;
 
 fn numbers(numbers: impl IntoIterator<Item = usize>) -> Vec<Input> {
-    let input = |number| Input {
-        number,
-        ..Input::default()
-    };
+    let input = |number| Input { number, ..Input::default() };
     numbers.into_iter().map(input).collect()
 }
 
 fn rooms(list: &[u32], rooms: impl IntoIterator<Item = usize>) -> Vec<Input> {
-    let input = |room| Input {
-        list: list.to_vec(),
-        room,
-        ..Input::default()
-    };
+    let input = |room| Input { list: list.to_vec(), room, ..Input::default() };
     rooms.into_iter().map(input).collect()
 }
 
@@ -226,7 +219,7 @@ pub fn sweep(case: &Case, random: &mut Random) -> Vec<Input> {
     // From 64 targets on a sweep has marks.
     let counts = match pins(&case.strip) {
         0..=300 if case.reads() => vec![0, 1, 2, 3, 10, 100, random.below(2000)],
-        _ if case.reads() => vec![1 + random.below(3), 10, 500],
+        _ if case.reads() => vec![1, 2, 3, 10, 500],
         0..=300 => vec![1, 2, 3, random.below(10), random.below(130), random.below(130)],
         _ => vec![1, 2, random.below(11)],
     };

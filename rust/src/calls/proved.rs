@@ -7,10 +7,7 @@ use crate::reference::strip::Refusal;
 
 /// What is given, or the refusal's number and what it carries.
 fn given(found: Result<Vec<usize>, gemcotton::Refusal>) -> Given {
-    found.map_err(|refusal| Refusal {
-        number: refusal.number(),
-        carried: refusal.carried(),
-    })
+    found.map_err(|refusal| Refusal { number: refusal.number(), carried: refusal.carried() })
 }
 
 fn accessed(found: Accessed) -> Vec<usize> {
@@ -18,9 +15,7 @@ fn accessed(found: Accessed) -> Vec<usize> {
 }
 
 pub fn pack(_: &[u8], input: &Input) -> Outcome {
-    Outcome::of_bytes(input.room, |out| {
-        given(gemcotton::pack(out, &input.list).map(|length| vec![length]))
-    })
+    Outcome::of_bytes(input.room, |out| given(gemcotton::pack(out, &input.list).map(|length| vec![length])))
 }
 
 pub fn check(strip: &[u8], _: &Input) -> Outcome {
@@ -28,9 +23,7 @@ pub fn check(strip: &[u8], _: &Input) -> Outcome {
 }
 
 pub fn unpack(strip: &[u8], input: &Input) -> Outcome {
-    Outcome::of_words(input.room, |out| {
-        given(gemcotton::unpack(out, strip).map(|pins| vec![pins]))
-    })
+    Outcome::of_words(input.room, |out| given(gemcotton::unpack(out, strip).map(|pins| vec![pins])))
 }
 
 pub fn access(strip: &[u8], input: &Input) -> Outcome {
@@ -64,10 +57,7 @@ pub fn step(strip: &[u8], input: &Input) -> Outcome {
     let mut walker = Walker::new(strip);
     walker.next = input.number;
     let found = walker.step();
-    Outcome {
-        given: given(found.map(|found| found.map_or(Vec::new(), accessed))),
-        memory: vec![walker.next as u64],
-    }
+    Outcome { given: given(found.map(|found| found.map_or(Vec::new(), accessed))), memory: vec![walker.next as u64] }
 }
 
 /// All that a walker gives from this position on, which is the memory.

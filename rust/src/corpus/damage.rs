@@ -22,12 +22,7 @@ pub fn every_byte(random: &mut Random, visit: Visit) {
 }
 
 /// Damages the levels of lists of all sorts, in so many rounds.
-fn damaged(
-    rounds: usize,
-    random: &mut Random,
-    visit: Visit,
-    damage: fn(&mut Vec<Level>, usize, &mut Random),
-) {
+fn damaged(rounds: usize, random: &mut Random, visit: Visit, damage: fn(&mut Vec<Level>, usize, &mut Random)) {
     for n in few_pins() {
         for levels in many_levels(n, random) {
             for round in 0..rounds {
@@ -104,8 +99,7 @@ pub fn other_code_bytes(random: &mut Random, visit: Visit) {
 pub fn wrong_pin_counts(random: &mut Random, visit: Visit) {
     for n in few_pins() {
         for levels in many_levels(n, random) {
-            let any = random.below(PINS + 1);
-            for pins in [n - 1, n + 1, n / 2, 2 * n, 2 * n + 1, any, PINS] {
+            for pins in [n - 1, n + 1, n / 2, 2 * n, 2 * n + 1, random.below(2000)] {
                 let mut levels = levels.clone();
                 let code = [0, 1, 65, 72][random.below(4)];
                 levels.resize(height(pins), (code, Vec::new()));
@@ -130,20 +124,32 @@ pub fn changed_bytes(random: &mut Random, visit: Visit) {
     }
 }
 
-/// The lowest level, of one to three nodes, is in each chunked code and has every part of up to two
-/// bytes. The others are far from the ends.
-pub fn every_short_part(_: &mut Random, visit: Visit) {
+/// The lowest level, of one to three nodes, is in each chunked code and has each part of one byte,
+/// or none. The others are far from the ends.
+pub fn every_part_of_one_byte(_: &mut Random, visit: Visit) {
+    short_parts(&mut |image| {
+        visit(image(&[]));
+        (0..=255).for_each(|byte| visit(image(&[byte])));
+    });
+}
+
+/// As with one byte. There are 1.6 million of them.
+pub fn every_part_of_two_bytes(_: &mut Random, visit: Visit) {
+    short_parts(&mut |image| {
+        (0..=65_535u16).for_each(|bytes| visit(image(&bytes.to_be_bytes())));
+    });
+}
+
+/// Gives what makes a strip with a short part.
+fn short_parts(visit: &mut dyn FnMut(&dyn Fn(&[u8]) -> Case)) {
     let root = (32, vec![0x80, 0, 0, 0]);
     let above = [vec![], vec![root.clone()], vec![root, (0, vec![])]];
     for (n, above) in [1, 3, 6].into_iter().zip(above) {
         for code in 65..=72 {
-            let mut with = |part: &[u8]| {
+            visit(&|part| {
                 let lowest = (code, part.to_vec());
-                visit(Case::strip(image(n, &[&above[..], &[lowest]].concat())));
-            };
-            with(&[]);
-            (0..=255).for_each(|byte| with(&[byte]));
-            (0..=65_535u16).for_each(|bytes| with(&bytes.to_be_bytes()));
+                Case::strip(image(n, &[&above[..], &[lowest]].concat()))
+            });
         }
     }
 }

@@ -6,10 +6,7 @@ use crate::parts::{any_code, chosen, chunks, set_bit};
 use crate::random::Random;
 use crate::reference::strip::{image, PINS};
 use crate::reference::tree::{nodes_of_level, stored, HEIGHT};
-use crate::strips::{
-    most_stored, past_the_greatest_time, refused_at, strip_of_values, with_chunks, with_value,
-    zeros,
-};
+use crate::strips::{most_stored, past_the_greatest_time, refused_at, strip_of_values, with_chunks, with_value, zeros};
 
 /// A node's number is at 2^32 - 1 or past it, also with chunks of zeros on top.
 pub fn values_around_the_greatest(random: &mut Random, visit: Visit) {

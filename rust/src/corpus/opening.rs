@@ -9,18 +9,7 @@ use crate::strips::{example, many_levels, packed, set_length, zeros, A};
 
 /// The strips that are examples of refusals.
 pub fn examples(_: &mut Random, visit: Visit) {
-    for (number, carried) in [
-        (1, 0),
-        (5, 0),
-        (6, 0),
-        (7, 0),
-        (8, 1),
-        (9, 1),
-        (10, 2),
-        (11, 3),
-        (12, 0),
-        (13, 0),
-    ] {
+    for (number, carried) in [(1, 0), (5, 0), (6, 0), (7, 0), (8, 1), (9, 1), (10, 2), (11, 3), (12, 0), (13, 0)] {
         visit(Case::refused(example(number), number, carried));
     }
     visit(Case::refused(Vec::new(), 5, 0));

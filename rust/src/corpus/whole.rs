@@ -25,9 +25,7 @@ pub fn long_lists(random: &mut Random, visit: Visit) {
             visit(Case::packed(times));
         }
     }
-    visit(Case::packed(rising(PINS, || {
-        random.skewed() & random.of_width(17)
-    })));
+    visit(Case::packed(rising(PINS, || random.skewed() & random.of_width(17))));
 }
 
 /// In any codes, and with bytes after the values too.

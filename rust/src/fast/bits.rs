@@ -92,8 +92,7 @@ fn sums_of_blocks(blocks: &mut ChunksExact<u8>) -> (Lanes, Lanes) {
     }
     let mut sums = [0; LANES];
     for lane in 0..LANES {
-        sums[lane] =
-            ones_by_byte(ones[lane]) + 2 * ones_by_byte(twos[lane]) + 4 * ones_by_byte(fours[lane]);
+        sums[lane] = ones_by_byte(ones[lane]) + 2 * ones_by_byte(twos[lane]) + 4 * ones_by_byte(fours[lane]);
     }
     (sums, eights)
 }
@@ -141,12 +140,7 @@ pub struct Writer<'a> {
 
 impl<'a> Writer<'a> {
     pub fn new(out: &'a mut [u8]) -> Self {
-        Writer {
-            out,
-            at: 0,
-            waiting: 0,
-            held: 0,
-        }
+        Writer { out, at: 0, waiting: 0, held: 0 }
     }
 
     /// Adds a number below 2^width, the width 1 to 64.

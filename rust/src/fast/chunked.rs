@@ -63,10 +63,7 @@ impl Layer {
 /// The value at this index of the `count` in the level, or none where the fetch is refused.
 pub fn fetch(strip: &[u8], level: Level, count: usize, mut index: usize) -> Option<u32> {
     let b = level.chunk_bits();
-    let mut layer = Layer {
-        start: 8 * level.from,
-        count,
-    };
+    let mut layer = Layer { start: 8 * level.from, count };
     let (mut value, mut shift) = (0, 0);
     loop {
         let end = layer.end(b);
@@ -86,10 +83,7 @@ pub fn fetch(strip: &[u8], level: Level, count: usize, mut index: usize) -> Opti
         let before = layer.ones(strip, 0, index);
         let after = layer.ones(strip, index + 1, layer.count);
         index = before;
-        layer = Layer {
-            start: end,
-            count: before + 1 + after,
-        };
+        layer = Layer { start: end, count: before + 1 + after };
     }
 }
 
@@ -103,10 +97,7 @@ pub fn decode(strip: &[u8], level: Level, values: &mut [u32]) -> Option<usize> {
 
 fn decode_chunks<const B: usize>(strip: &[u8], level: Level, values: &mut [u32]) -> Option<usize> {
     let mut layers = [Layer::default(); 32];
-    let mut layer = Layer {
-        start: 8 * level.from,
-        count: values.len(),
-    };
+    let mut layer = Layer { start: 8 * level.from, count: values.len() };
     let mut number = 0;
     while layer.count > 0 {
         if layer.end(B) > 8 * level.to || number == 32usize.div_ceil(B) {
@@ -114,10 +105,7 @@ fn decode_chunks<const B: usize>(strip: &[u8], level: Level, values: &mut [u32])
         }
         layers[number] = layer;
         number += 1;
-        layer = Layer {
-            start: layer.end(B),
-            count: layer.ones(strip, 0, layer.count),
-        };
+        layer = Layer { start: layer.end(B), count: layer.ones(strip, 0, layer.count) };
     }
     // From the last layer up, what stands at the front of `values` spreads to those it belongs to.
     let mut above = 0;
@@ -253,13 +241,7 @@ fn spread_few<const B: usize>(
 
 /// Spreads eight rests into eight values.
 #[inline(always)]
-fn spread_eight<const B: usize>(
-    strip: &[u8],
-    layer: Layer,
-    index: usize,
-    kept: usize,
-    values: &mut [u32],
-) -> usize {
+fn spread_eight<const B: usize>(strip: &[u8], layer: Layer, index: usize, kept: usize, values: &mut [u32]) -> usize {
     let left = kept - 8;
     let rests: [u32; 8] = values[left..kept].try_into().expect("eight rests");
     let eight = eight_chunks::<B>(strip, layer, index);
@@ -320,11 +302,7 @@ const WORD: usize = 64;
 
 /// Writes the layer's continuation bits, puts what is left of the values that go on into `rests`
 /// and gives how many these are.
-fn write_continuation<const B: usize>(
-    values: &[u32],
-    rests: &mut [u32],
-    writer: &mut Writer,
-) -> usize {
+fn write_continuation<const B: usize>(values: &[u32], rests: &mut [u32], writer: &mut Writer) -> usize {
     let mut kept = 0;
     let blocks = values.chunks_exact(WORD);
     let last = blocks.remainder();
@@ -350,9 +328,7 @@ fn continuation_bits<const B: usize>(block: &[u32]) -> u64 {
     let bit = |(k, &value): (usize, &u32)| u16::from(value >= 1 << B) << k;
     let sixteen = |group: &[u32]| group.iter().enumerate().map(bit).fold(0, BitOr::bitor);
     let groups = block.chunks_exact(16).map(sixteen);
-    groups
-        .rev()
-        .fold(0, |bits, group| bits << 16 | u64::from(group))
+    groups.rev().fold(0, |bits, group| bits << 16 | u64::from(group))
 }
 
 /// Puts what is left of the values that go on, which the bits tell, to the front of `rests`.

@@ -44,11 +44,7 @@ pub struct Header {
 impl Header {
     #[inline(always)]
     pub fn level(&self, depth: usize) -> Level {
-        Level {
-            code: self.codes[depth],
-            from: self.ends[depth],
-            to: self.ends[depth + 1],
-        }
+        Level { code: self.codes[depth], from: self.ends[depth], to: self.ends[depth + 1] }
     }
 }
 

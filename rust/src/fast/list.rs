@@ -40,12 +40,7 @@ fn lengths_above(shape: Shape) -> (usize, usize) {
 
 /// Reads a strip whose times do not fall, if no node is refused. Where it must be an image, no
 /// other byte may differ from it either.
-pub fn read<'a>(
-    strip: &[u8],
-    header: &Header,
-    image: bool,
-    memory: &'a mut [u32],
-) -> Option<Read<'a>> {
+pub fn read<'a>(strip: &[u8], header: &Header, image: bool, memory: &'a mut [u32]) -> Option<Read<'a>> {
     let shape = header.shape;
     let last = shape.height - 1;
     let (stored, memory) = memory.split_at_mut(most_nodes(shape));
@@ -70,11 +65,7 @@ pub fn read<'a>(
     let stored = &stored[..shape.lowest];
     // A time that passes an end wraps to the wrong side of its parent, so this shows it too.
     let sound = above.is_sorted() && fits(above, stored);
-    sound.then_some(Read {
-        above,
-        stored,
-        rest: next,
-    })
+    sound.then_some(Read { above, stored, rest: next })
 }
 
 /// Whether pack writes the level so. The values come from it and take so many bits of it.

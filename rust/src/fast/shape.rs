@@ -21,11 +21,7 @@ impl Shape {
     pub fn new(pins: usize) -> Self {
         debug_assert!((1..=PINS).contains(&pins));
         let height = depth(pins) + 1;
-        Shape {
-            pins,
-            height,
-            lowest: pins + 1 - (1 << (height - 1)),
-        }
+        Shape { pins, height, lowest: pins + 1 - (1 << (height - 1)) }
     }
 
     /// The number of nodes at this depth, the root's being 0.

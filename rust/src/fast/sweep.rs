@@ -37,8 +37,7 @@ fn merge(times: &[u32], targets: &[u32], answers: &mut [u32]) {
     let Some(&last) = targets.last() else { return };
     let steps = targets.len() + below(times, last);
     let each = steps / MERGES;
-    let starts: [usize; MERGES] =
-        std::array::from_fn(|merge| times_passed(times, targets, merge * each));
+    let starts: [usize; MERGES] = std::array::from_fn(|merge| times_passed(times, targets, merge * each));
     let mut passed = starts;
     for step in 0..each {
         for (merge, passed) in passed.iter_mut().enumerate() {
@@ -62,9 +61,7 @@ fn merge(times: &[u32], targets: &[u32], answers: &mut [u32]) {
 fn pass(times: &[u32], targets: &[u32], answers: &mut [u32], steps: usize, passed: usize) -> usize {
     let target = steps - passed;
     answers[target] = passed as u32;
-    let below = times
-        .get(passed)
-        .is_some_and(|&time| time < targets[target]);
+    let below = times.get(passed).is_some_and(|&time| time < targets[target]);
     passed + usize::from(below)
 }
 

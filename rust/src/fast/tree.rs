@@ -8,13 +8,7 @@ use crate::reference::strip::Refusal;
 
 /// The time of node v, at this depth, under a parent of this time, which for the root is 0.
 #[inline(always)]
-fn open(
-    strip: &[u8],
-    header: &Header,
-    v: usize,
-    depth: usize,
-    parent: u32,
-) -> Result<u32, Refusal> {
+fn open(strip: &[u8], header: &Header, v: usize, depth: usize, parent: u32) -> Result<u32, Refusal> {
     let count = header.shape.count(depth);
     let value = fetch(strip, header.level(depth), count, v - (1 << depth));
     let Some(value) = value else {
@@ -60,10 +54,7 @@ struct Lefts {
 
 impl Lefts {
     fn new() -> Self {
-        Lefts {
-            nodes: [(0, 0); HEIGHT],
-            held: 0,
-        }
+        Lefts { nodes: [(0, 0); HEIGHT], held: 0 }
     }
 
     #[inline(always)]
@@ -85,12 +76,7 @@ impl Lefts {
 
 /// Writes each target's position and gives the nodes opened. There are as many answers as targets,
 /// and these do not fall.
-pub fn sweep(
-    strip: &[u8],
-    header: &Header,
-    targets: &[u32],
-    answers: &mut [u32],
-) -> Result<usize, Refusal> {
+pub fn sweep(strip: &[u8], header: &Header, targets: &[u32], answers: &mut [u32]) -> Result<usize, Refusal> {
     let shape = header.shape;
     let mut lefts = Lefts::new();
     let (mut v, mut time, mut nodes) = (1, 0, 0);
@@ -123,12 +109,7 @@ pub fn sweep(
 }
 
 /// The first of so many positions with a time less than r after the one before, or none.
-pub fn first_near(
-    strip: &[u8],
-    header: &Header,
-    r: u32,
-    positions: usize,
-) -> Result<Option<usize>, Refusal> {
+pub fn first_near(strip: &[u8], header: &Header, r: u32, positions: usize) -> Result<Option<usize>, Refusal> {
     let mut before = None;
     let near = walk(strip, header, |i, time| {
         let near = before.is_some_and(|before| time - before < r);

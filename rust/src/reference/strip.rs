@@ -38,9 +38,7 @@ fn write(bytes: &mut Vec<u8>, number: usize, length: usize) {
 
 /// The number that these bytes are, high byte first.
 fn number(bytes: &[u8]) -> usize {
-    bytes
-        .iter()
-        .fold(0, |sum, &byte| 256 * sum + usize::from(byte))
+    bytes.iter().fold(0, |sum, &byte| 256 * sum + usize::from(byte))
 }
 
 /// The bytes of a strip of n pins with these codes and parts, level by level.
@@ -127,11 +125,7 @@ fn open(strip: &[u8]) -> Result<Levels, Refusal> {
     if strip.len() as u128 != (7 + 5 * h) as u128 + parts {
         return refused(13, 0);
     }
-    let mut levels = Levels {
-        pins: n,
-        codes: [255; HEIGHT],
-        ends: [0; HEIGHT + 1],
-    };
+    let mut levels = Levels { pins: n, codes: [255; HEIGHT], ends: [0; HEIGHT + 1] };
     levels.ends[0] = 7 + 5 * h;
     for level in 1..=h {
         levels.codes[level - 1] = strip[entry(level)];
@@ -169,12 +163,7 @@ pub fn up_to(strip: &[u8], t: u32) -> Result<(usize, usize), Refusal> {
 /// "Sweep: 15, 16, then [...]. The result carries the nodes opened in all; no targets give 0."
 /// There are this many answers. Adds to `written` those that it writes, also before a refusal:
 /// "a sweep met by 9 or 10 has written the earlier targets' answers".
-pub fn sweep(
-    strip: &[u8],
-    targets: &[u32],
-    answers: usize,
-    written: &mut Vec<usize>,
-) -> Result<usize, Refusal> {
+pub fn sweep(strip: &[u8], targets: &[u32], answers: usize, written: &mut Vec<usize>) -> Result<usize, Refusal> {
     let levels = open(strip)?;
     // 15: "answers and targets differ in length".
     if answers != targets.len() {
@@ -189,8 +178,8 @@ pub fn sweep(
     Ok(tree::sweep(strip, &levels, targets, written)?)
 }
 
-/// Gives the time at a position, or refuses. Check, unpack and repeat are told whose access they
-/// go by: `access` above, or a quicker one that does the same.
+/// Gives the time at a position, or refuses. Calls that may read many positions are told whose
+/// access they go by: `access` above, or a quicker one that does the same.
 pub type Access = fn(&[u8], usize) -> Result<(u32, usize), Refusal>;
 
 /// The time that follows these, which are the strip's first ones. Check, unpack and repeat find
@@ -256,7 +245,7 @@ pub type Said = Result<Option<(u32, usize)>, Refusal>;
 
 /// "Pin walker [...]: it carries the strip it walks and the next position, 0 at the start." What a
 /// step says, and the next position after it. "End and refusals do not move it."
-pub fn step(strip: &[u8], next: usize) -> (Said, usize) {
+pub fn step(strip: &[u8], next: usize, access: Access) -> (Said, usize) {
     // "A step opens".
     let levels = match open(strip) {
         Ok(levels) => levels,

@@ -132,10 +132,7 @@ pub fn values_of_level(values: &[u32], level: usize) -> &[u32] {
 
 /// Each level's code and part, for nodes that store these values, whether or not a list
 /// makes them. `code_for` is given a level and its values and names a code that holds them.
-pub fn parts_of_values(
-    values: &[u32],
-    mut code_for: impl FnMut(usize, &[u32]) -> u8,
-) -> Vec<(u8, Vec<u8>)> {
+pub fn parts_of_values(values: &[u32], mut code_for: impl FnMut(usize, &[u32]) -> u8) -> Vec<(u8, Vec<u8>)> {
     let part = |level| {
         let values = values_of_level(values, level);
         let code = code_for(level, values);
@@ -156,9 +153,7 @@ pub enum Refusal {
 
 /// What node v stores. "A fetch is handed its level's part alone".
 fn fetch_node(s: &[u8], levels: &Levels, v: usize) -> Result<u32, Refusal> {
-    let level = (1..)
-        .find(|&level| nodes_of_level(levels.pins, level).contains(&v))
-        .expect("every node has a level");
+    let level = (1..).find(|&level| nodes_of_level(levels.pins, level).contains(&v)).expect("every node has a level");
     let nodes = nodes_of_level(levels.pins, level);
     let index = v - nodes.start();
     let part = &s[levels.ends[level - 1]..levels.ends[level]];
@@ -174,11 +169,7 @@ fn open(s: &[u8], levels: &Levels, v: usize) -> Result<(u32, usize), Refusal> {
     }
     let (parent, nodes) = open(s, levels, v / 2)?;
     let value = fetch_node(s, levels, v)?;
-    let time = if is_left(v) {
-        i64::from(parent) - i64::from(value)
-    } else {
-        i64::from(parent) + i64::from(value)
-    };
+    let time = if is_left(v) { i64::from(parent) - i64::from(value) } else { i64::from(parent) + i64::from(value) };
     let time = u32::try_from(time).map_err(|_| Refusal::Time(v))?;
     Ok((time, nodes + 1))
 }
@@ -215,12 +206,7 @@ pub fn search(s: &[u8], levels: &Levels, t: u32) -> Result<(usize, usize), Refus
 /// it. If any dropped, it goes on from the right child of the last dropped. The position is the
 /// rank of the deepest remembered node, or n." Adds the positions to `written`, and gives "the
 /// nodes opened in all".
-pub fn sweep(
-    s: &[u8],
-    levels: &Levels,
-    targets: &[u32],
-    written: &mut Vec<usize>,
-) -> Result<usize, Refusal> {
+pub fn sweep(s: &[u8], levels: &Levels, targets: &[u32], written: &mut Vec<usize>) -> Result<usize, Refusal> {
     let n = levels.pins;
     // The deepest one last.
     let mut remembered: Vec<(usize, u32)> = Vec::new();
