@@ -1,9 +1,8 @@
-//! How fast the calls are, in one run: the proved library and the implementation written for speed
-//! ("fast").
+//! How fast the calls are, in one run: the proved library and the implementation written for speed ("fast").
 //!
-//! In a round each works once, one right after the other, and who begins changes from round to
-//! round. A time is the median over the rounds, and so is a ratio, which is taken within each
-//! round: the machine's own changes of speed meet both sides of it.
+//! In a round each works once, one right after the other, and who begins changes from round to round. A time is the
+//! median over the rounds, and so is a ratio, which is taken within each round: the machine's own changes of speed meet
+//! both sides of it.
 //!
 //! With a part of a call's name, as `sweep`, only such calls are timed.
 
@@ -92,11 +91,7 @@ const WHOLE: [Call; 4] = [
         |tune, lent| ignore(gemcotton::unpack(&mut lent.words, &tune.strip)),
         |tune, lent| ignore(fast::unpack(&tune.strip, &mut lent.words)),
     ),
-    whole(
-        "repeat",
-        |tune, _| ignore(gemcotton::repeat(&tune.strip, 0)),
-        |tune, _| ignore(fast::repeat(&tune.strip, 0)),
-    ),
+    whole("repeat", |tune, _| ignore(gemcotton::repeat(&tune.strip, 0)), |tune, _| ignore(fast::repeat(&tune.strip))),
 ];
 
 const LOOKING_UP: [Call; 4] = [
@@ -177,8 +172,8 @@ impl Race {
         Race::new(&[call.proved, call.fast].map(|work| Runner::new(call, work, tune, 1)))
     }
 
-    /// Proved on the long list and on the short one, then fast on both. The short one is worked on
-    /// so often that the pins are as many.
+    /// Proved on the long list and on the short one, then fast on both. The short one is worked on so often that the
+    /// pins are as many.
     fn of_lengths(call: &Call, long: &Tune, short: &Tune) -> Self {
         let repeats = (call.units)(long) / (call.units)(short);
         let runner = |work| [Runner::new(call, work, long, 1), Runner::new(call, work, short, repeats)];

@@ -1,5 +1,5 @@
-//! The table of calls. Each is asked alike, by the bytes of a strip and an [`Input`], and tells
-//! alike what it does, by an [`Outcome`]. A new call is a row of the table.
+//! The table of calls. Each is asked alike, by the bytes of a strip and an [`Input`], and tells alike what it does, by
+//! an [`Outcome`]. A new call is a row of the table.
 
 mod expected;
 mod inputs;
@@ -49,8 +49,7 @@ impl Outcome {
         Outcome::lent(room, |i| 0xA5C3_9669 ^ i as u32, call)
     }
 
-    /// Lends this much room, with other entries on both sides. At first no entry is like its
-    /// neighbours.
+    /// Lends this much room, with other entries on both sides. At first no entry is like its neighbours.
     fn lent<Entry: Into<u64>>(
         room: usize,
         fill: fn(usize) -> Entry,

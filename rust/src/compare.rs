@@ -1,5 +1,5 @@
-//! Runs a call of the table over the corpus: the proved library must do what the reference does,
-//! and what the list alone tells where a strip reads as one.
+//! Runs a call of the table over the corpus: the proved library must do what the reference does, and what the list
+//! alone tells where a strip reads as one.
 
 use std::collections::BTreeMap;
 
@@ -19,8 +19,7 @@ const OPENING: [usize; 6] = [5, 6, 7, 1, 8, 13];
 /// How often a call ended so: by the numbers of refusals, and with an answer at 0.
 pub type Tally = BTreeMap<usize, usize>;
 
-/// Compares the call on the whole corpus. It must often be refused with each of its numbers, and
-/// with no other one.
+/// Compares the call on the whole corpus. It must often be refused with each of its numbers, and with no other one.
 pub fn compare(call: &Call) {
     let mut tally = Tally::new();
     for kind in kinds(call.name) {
@@ -62,8 +61,7 @@ fn compare_case(call: &Call, kind: &str, case: &Case, tally: &mut Tally, random:
     }
 }
 
-/// How many inputs the reference sees. It is slow, and where a list tells what a long strip must
-/// answer, it sees few.
+/// How many inputs the reference sees. It is slow, and where a list tells what a long strip must answer, it sees few.
 fn seen_by_reference(pins: usize, has_list: bool) -> usize {
     match pins {
         _ if !has_list => usize::MAX,

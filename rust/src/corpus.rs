@@ -1,5 +1,5 @@
-//! The corpus: lists and strips of all sorts, whole and damaged, that every call of the table is
-//! run on. A new kind of damage is a row of [`KINDS`].
+//! The corpus: lists and strips of all sorts, whole and damaged, that every call of the table is run on. A new kind of
+//! damage is a row of [`KINDS`].
 
 mod damage;
 mod falling;

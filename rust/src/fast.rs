@@ -1,5 +1,5 @@
-//! The strip as one would write it in Rust for speed: whole words, constant shifts, every level in
-//! one pass. What is amiss is only noticed there; nodes opened one by one then tell the refusal.
+//! The strip as one would write it in Rust for speed: whole words, constant shifts, every level in one pass. What is
+//! amiss is only noticed there; nodes opened one by one then tell the refusal.
 //!
 //! The public functions are never inlined, since calls into the proved library are not.
 
@@ -19,6 +19,9 @@ use list::{read, split, Read};
 use shape::{Shape, HEIGHT};
 
 use crate::reference::strip::{Refusal, PINS};
+
+/// Stands for whatever is amiss with a strip's nodes, which is noticed but not told.
+const AMISS: Refusal = Refusal { number: 12, carried: 0 };
 
 #[inline(always)]
 fn refusal(number: usize, carried: usize) -> Refusal {
@@ -81,8 +84,8 @@ fn stored(shape: Shape, times: &[u32]) -> Vec<u32> {
     let (values, list) = memory.split_at_mut(shape.pins);
     let list = &mut list[..lowest - 1];
     split(times, &mut values[nodes_at(shape, shape.height - 1)], list);
-    // The list has lost the lower levels. What stands above a level is put where the values of the
-    // higher levels are to go, and is then the next list.
+    // The list has lost the lower levels. What stands above a level is put where the values of the higher levels are to
+    // go, and is then the next list.
     for depth in (0..shape.height - 1).rev() {
         let above = (1 << depth) - 1;
         let (higher, level) = values[..2 * above + 1].split_at_mut(above);
@@ -96,13 +99,8 @@ fn stored(shape: Shape, times: &[u32]) -> Vec<u32> {
 fn with_list<T>(strip: &[u8], use_list: impl FnOnce(Shape, Read) -> Result<T, Refusal>) -> Result<T, Refusal> {
     let header = open(strip)?;
     let mut memory = list::memory(header.shape, 0);
-    match read(strip, &header, true, &mut memory) {
-        Some(read) => use_list(header.shape, read),
-        None => {
-            tree::walk(strip, &header, |_, _| None::<()>)?;
-            Err(refusal(12, 0))
-        }
-    }
+    let read = read(strip, &header, true, &mut memory).ok_or(AMISS)?;
+    use_list(header.shape, read)
 }
 
 /// The pin count of a strip that some list packs to.
@@ -140,8 +138,7 @@ pub fn search(strip: &[u8], t: u32) -> Result<(usize, usize), Refusal> {
     tree::search(strip, &header, t)
 }
 
-/// Writes the number of times below each target where the strip is a list's, and gives the nodes
-/// opened.
+/// Writes the number of times below each target where the strip is a list's, and gives the nodes opened.
 #[inline(never)]
 pub fn sweep(strip: &[u8], targets: &[u32], answers: &mut [u32]) -> Result<usize, Refusal> {
     let header = open(strip)?;
@@ -162,24 +159,10 @@ pub fn sweep(strip: &[u8], targets: &[u32], answers: &mut [u32]) -> Result<usize
     tree::sweep(strip, &header, targets, answers)
 }
 
-/// The first position with a time less than r after the one before, or none.
+/// A repeat check for gaps below 0, of which there are none. It reads all positions.
 #[inline(never)]
-pub fn repeat(strip: &[u8], r: u32) -> Result<Option<usize>, Refusal> {
+pub fn repeat(strip: &[u8]) -> Result<(), Refusal> {
     let header = open(strip)?;
-    let pins = header.shape.pins;
-    // With r = 0 none is near. Otherwise the first positions may tell, and nodes are opened for a
-    // quarter of the time that it takes to read all.
-    if r > 0 {
-        let (read, open) = (costs::of_reading(&header), costs::of_opening(&header, pins));
-        let first = 4 + pins * read / (4 * open);
-        if let Some(near) = tree::first_near(strip, &header, r, first)? {
-            return Ok(Some(near));
-        }
-    }
-    let mut memory = list::memory(header.shape, if r > 0 { pins } else { 0 });
-    match read(strip, &header, false, &mut memory) {
-        Some(_) if r == 0 => Ok(None),
-        Some(read) => Ok(list::first_near(read.times(), r)),
-        None => tree::first_near(strip, &header, r, pins),
-    }
+    let mut memory = list::memory(header.shape, 0);
+    read(strip, &header, false, &mut memory).map(|_| ()).ok_or(AMISS)
 }

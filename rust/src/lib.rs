@@ -1,5 +1,5 @@
-//! What the tests and the benchmark are made of: an independent implementation of the scope, a
-//! corpus of strips, the table of calls that is run over it, and an implementation for speed.
+//! What the tests and the benchmark are made of: an independent implementation of the scope, a corpus of strips, the
+//! table of calls that is run over it, and an implementation for speed.
 
 pub mod calls;
 pub mod compare;

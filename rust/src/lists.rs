@@ -2,8 +2,8 @@
 
 use crate::random::Random;
 
-/// Counts around the powers of two and three times these, where the height or the root's
-/// case changes, up to the limit. The greatest count of all is among them.
+/// Counts around the powers of two and three times these, where the height or the root's case changes, up to the limit.
+/// The greatest count of all is among them.
 pub fn around_powers(limit: usize) -> Vec<usize> {
     let mut counts = Vec::new();
     for k in 0..=64 {

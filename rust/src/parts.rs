@@ -22,8 +22,7 @@ pub fn any_code(random: &mut Random) -> impl FnMut(usize, &[u32]) -> u8 + '_ {
     }
 }
 
-/// A part with these chunks for each value, least significant first, whether or not an
-/// encoder would write them.
+/// A part with these chunks for each value, least significant first, whether or not an encoder would write them.
 pub fn part_of_chunks(values: &[Vec<u32>], b: u32) -> Vec<u8> {
     let mut bits = Vec::new();
     for layer in 0.. {

@@ -29,9 +29,9 @@ impl<'a> Plain<'a> {
         Plain { times, image, refused, ranks, nodes }
     }
 
-    /// "The path of a search on it begins at node 1, where there are nodes. From each node it goes
-    /// to the left child when the plain list's time at that node's rank is at or above the target,
-    /// else to the right child, and it ends where that child is not among the nodes."
+    /// "The path of a search on it begins at node 1, where there are nodes. From each node it goes to the left child
+    /// when the plain list's time at that node's rank is at or above the target, else to the right child, and it ends
+    /// where that child is not among the nodes."
     fn path(&self, t: u32) -> impl Iterator<Item = usize> + '_ {
         let among = |v| (v <= self.times.len()).then_some(v);
         iter::successors(among(1), move |&v| {
@@ -92,8 +92,8 @@ impl<'a> Plain<'a> {
         Outcome::of(Ok(vec![self.below(t), nodes]))
     }
 
-    /// The number of times up to t, and the nodes opened. "It gives n and 0 nodes for
-    /// t = 4,294,967,295, otherwise search at t + 1 with its count."
+    /// The number of times up to t, and the nodes opened. "It gives n and 0 nodes for t = 4,294,967,295, otherwise
+    /// search at t + 1 with its count."
     pub fn up_to(&self, input: &Input) -> Outcome {
         let t = input.number as u32;
         let strikes = self.times.partition_point(|&time| time <= t);
@@ -101,8 +101,8 @@ impl<'a> Plain<'a> {
         Outcome::of(Ok(vec![strikes, nodes]))
     }
 
-    /// The number of times below each target, and of different nodes on the paths: "Two paths share
-    /// a node where they have the same node number."
+    /// The number of times below each target, and of different nodes on the paths: "Two paths share a node where they
+    /// have the same node number."
     pub fn sweep(&self, input: &Input) -> Outcome {
         let (n, targets) = (self.times.len(), &input.list);
         Outcome::of_words(input.room, |answers| {

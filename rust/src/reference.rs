@@ -1,5 +1,4 @@
-//! The scope's level codes, bit by bit. Slow on purpose: each function follows the
-//! scope's sentences and nothing else.
+//! The scope's level codes, bit by bit. Slow on purpose: each function follows the scope's sentences and nothing else.
 
 pub mod strip;
 pub mod tree;
@@ -11,8 +10,7 @@ pub enum Kind {
     Refused,
 }
 
-/// "Codes 0..32 are fixed widths in bits; codes 65..72 are chunked with b = code - 64.
-/// All other codes are refused."
+/// "Codes 0..32 are fixed widths in bits; codes 65..72 are chunked with b = code - 64. All other codes are refused."
 pub fn kind(code: u8) -> Kind {
     match code {
         0..=32 => Kind::Fixed(u32::from(code)),
@@ -21,8 +19,7 @@ pub fn kind(code: u8) -> Kind {
     }
 }
 
-/// "A value has one chunk when 0, otherwise as many b-bit chunks as reach its highest
-/// one bit".
+/// "A value has one chunk when 0, otherwise as many b-bit chunks as reach its highest one bit".
 fn chunk_count(value: u32, b: u32) -> u32 {
     let mut count = 1;
     while u64::from(value) >> (count * b) > 0 {
@@ -31,8 +28,7 @@ fn chunk_count(value: u32, b: u32) -> u32 {
     count
 }
 
-/// The size in bits before padding, or none where the code is refused or does not hold
-/// the values.
+/// The size in bits before padding, or none where the code is refused or does not hold the values.
 pub fn size(values: &[u32], code: u8) -> Option<u64> {
     let mut size = 0;
     for &value in values {
@@ -51,9 +47,8 @@ pub fn size(values: &[u32], code: u8) -> Option<u64> {
     Some(size)
 }
 
-/// The code byte pack chooses, and its size in bits: "the code with fewest bits before
-/// padding. On a tie a fixed code wins, then the smaller b. A fixed width is the least
-/// that holds the level's largest value".
+/// The code byte pack chooses, and its size in bits: "the code with fewest bits before padding. On a tie a fixed code
+/// wins, then the smaller b. A fixed width is the least that holds the level's largest value".
 pub fn choose(values: &[u32]) -> (u8, u64) {
     let mut best = None;
     for code in 0..=255 {
@@ -94,15 +89,15 @@ pub fn encode(values: &[u32], code: u8) -> Option<Vec<u8>> {
         Kind::Chunked(b) => {
             let counted = values.iter().map(|&value| (value, chunk_count(value, b)));
             let mut here: Vec<(u32, u32)> = counted.collect();
-            // "Layer 1 holds the first chunks of all values of the level, layer 2 the second
-            // chunks of those that have one, and so on, in node order."
+            // "Layer 1 holds the first chunks of all values of the level, layer 2 the second chunks of those that have
+            // one, and so on, in node order."
             for layer in 1.. {
                 here.retain(|&(_, count)| count >= layer);
                 if here.is_empty() {
                     break;
                 }
-                // "A layer is its continuation bits (1: another chunk follows), then its
-                // chunks." The least significant chunk comes first.
+                // "A layer is its continuation bits (1: another chunk follows), then its chunks." The least significant
+                // chunk comes first.
                 for &(_, count) in &here {
                     bits.push(count > layer);
                 }
@@ -125,8 +120,8 @@ fn number(bits: &[bool]) -> u64 {
     bits.iter().fold(0, |sum, &bit| 2 * sum + u64::from(bit))
 }
 
-/// The bits [from, from + length) of the part, or none where they do not lie in it. The
-/// numbers are wide, so that no count or index makes them overflow.
+/// The bits [from, from + length) of the part, or none where they do not lie in it. The numbers are wide, so that no
+/// count or index makes them overflow.
 fn bits(part: &[u8], from: u128, length: u128) -> Option<Vec<bool>> {
     if from + length > 8 * part.len() as u128 {
         return None;
@@ -135,8 +130,8 @@ fn bits(part: &[u8], from: u128, length: u128) -> Option<Vec<bool>> {
     Some((from..from + length).map(bit).collect())
 }
 
-/// Value `index` of the `count` that the part holds in this code, or none where the
-/// fetch is refused. The index is below the count.
+/// Value `index` of the `count` that the part holds in this code, or none where the fetch is refused. The index is
+/// below the count.
 pub fn fetch(part: &[u8], code: u8, count: usize, index: usize) -> Option<u32> {
     assert!(index < count);
     match kind(code) {

@@ -58,14 +58,13 @@ pub fn packed(times: &[u32]) -> Vec<u8> {
     pack(times, usize::MAX).expect("a list")
 }
 
-/// The strip of nodes that store these values, whether or not a list makes them, in codes as in
-/// `parts_of_values`.
+/// The strip of nodes that store these values, whether or not a list makes them, in codes as in `parts_of_values`.
 pub fn strip_of_values(values: &[u32], code_for: impl FnMut(usize, &[u32]) -> u8) -> Vec<u8> {
     image(values.len(), &parts_of_values(values, code_for))
 }
 
-/// The list's strip in any codes, with bytes after each level's values, which no fetch reads: so
-/// many at least, and at most three.
+/// The list's strip in any codes, with bytes after each level's values, which no fetch reads: so many at least, and at
+/// most three.
 pub fn wasteful(times: &[u32], least: usize, random: &mut Random) -> Vec<u8> {
     let mut levels = parts_of_values(&stored(times), any_code(random));
     for (_, part) in &mut levels {
@@ -111,8 +110,7 @@ pub fn pins(strip: &[u8]) -> usize {
     }
 }
 
-/// Whether all codes of a strip are fixed, so that the reference reads a long
-/// one in good time.
+/// Whether all codes of a strip are fixed, so that the reference reads a long one in good time.
 pub fn is_fixed(strip: &[u8]) -> bool {
     let codes = strip.iter().skip(7).step_by(5);
     codes.take(height(pins(strip))).all(|&code| code <= 32)
@@ -147,8 +145,8 @@ pub fn most_stored(times: &[u32], v: usize) -> u32 {
     }
 }
 
-/// Strips of the list that are refused at node v and nowhere above it, and the number: with 9, and
-/// with 10 where a time there can pass the ends.
+/// Strips of the list that are refused at node v and nowhere above it, and the number: with 9, and with 10 where a time
+/// there can pass the ends.
 pub fn refused_at(times: &[u32], v: usize, random: &mut Random) -> Vec<(Vec<u8>, usize)> {
     let number = (1 << 32) << random.below(9);
     let b = 1 + random.of_width(3);
@@ -163,16 +161,6 @@ pub fn refused_at(times: &[u32], v: usize, random: &mut Random) -> Vec<(Vec<u8>,
 /// The levels of the longest list of zeros, in width 1.
 pub fn zeros() -> Vec<Level> {
     parts_of_values(&[0; PINS], |_, _| 1)
-}
-
-/// The strip of those levels under the greatest time, but the last node of this level, which is
-/// not the first one, stores 1. It is refused there with 10.
-pub fn past_the_greatest_time(level: usize) -> Vec<u8> {
-    let mut levels = zeros();
-    levels[0] = (32, vec![0xFF; 4]);
-    let nodes = nodes_of_level(PINS, level).count();
-    *levels[level - 1].1.last_mut().expect("a part") |= 1 << (8 - nodes.min(8));
-    image(PINS, &levels)
 }
 
 // ---- Changes ----

@@ -44,8 +44,8 @@ pub struct Tune {
     pub strip: Vec<u8>,
     pub positions: Vec<usize>,
     pub targets: Vec<u32>,
-    /// The targets of one sweep, of another one, and of sweeps of as many targets as pins: each of
-    /// these has its own lest the processor remember them, about PINS in all.
+    /// The targets of one sweep, of another one, and of sweeps of as many targets as pins: each of these has its own
+    /// lest the processor remember them, about PINS in all.
     pub sweeps: [Vec<Vec<u32>>; 3],
 }
 

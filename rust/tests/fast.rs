@@ -1,5 +1,5 @@
-//! The implementation for speed, on the lists of the benchmark: it must answer as the lists tell,
-//! and as the reference does where that is not too slow.
+//! The implementation for speed, on the lists of the benchmark: it must answer as the lists tell, and as the reference
+//! does where that is not too slow.
 
 use gemcotton_tests::calls::{Input, Outcome};
 use gemcotton_tests::fast;
@@ -19,7 +19,7 @@ fn check(tune: &Tune) {
     assert_eq!(fast::check(strip), Ok(n));
     let unpacked = Outcome::of_words(n, |out| fast::unpack(strip, out).map(|pins| vec![pins]));
     assert!(unpacked == plain.unpack(&lend(&[], n)));
-    assert_eq!(fast::repeat(strip, 0), Ok(None));
+    assert_eq!(fast::repeat(strip), Ok(()));
     for &i in positions {
         let found = fast::access(strip, i).map(|(time, nodes)| vec![time as usize, nodes]);
         assert_eq!(found, plain.access(&ask(i)).given);

@@ -1,9 +1,9 @@
-//! The marked cases and the examples of refusals, with the answers that the scope tells. The
-//! proved library and the reference must give them.
+//! The marked cases and the examples of refusals, with the answers that the scope tells. The proved library and the
+//! reference must give them.
 
 use gemcotton_tests::calls::{call, Given, Input};
 use gemcotton_tests::reference::strip::refused;
-use gemcotton_tests::strips::{example, A, B, TIMES_A};
+use gemcotton_tests::strips::{example, packed, A, B, TIMES_A};
 
 /// What the call gives, by both, and what it writes to the front of what it is lent.
 fn done(name: &str, strip: &[u8], input: &Input) -> (Given, Vec<u64>) {
@@ -31,20 +31,11 @@ fn sweep(strip: &[u8], targets: &[u32], positions: &[u64], given: Given) {
     assert_eq!(memory[..positions.len()], *positions);
 }
 
+/// The corpus has these lists with their strips.
 #[test]
 fn packing() {
-    let strips = [(&TIMES_A[..], &A[..]), (&[0], &B)];
-    for (list, strip) in strips {
-        let (given, memory) = lent("pack", &[], list, strip.len());
-        assert_eq!(given, Ok(vec![strip.len()]));
-        let bytes: Vec<u64> = strip.iter().map(|&byte| byte.into()).collect();
-        assert_eq!(memory[..bytes.len()], bytes);
-        let (given, memory) = lent("unpack", strip, &[], list.len());
-        assert_eq!(given, Ok(vec![list.len()]));
-        let times: Vec<u64> = list.iter().map(|&time| time.into()).collect();
-        assert_eq!(memory[..times.len()], times);
-        assert_eq!(asked("check", strip, 0), Ok(vec![list.len()]));
-    }
+    assert_eq!(packed(&TIMES_A), A);
+    assert_eq!(packed(&[0]), B);
 }
 
 #[test]
@@ -53,7 +44,7 @@ fn looking_up() {
     assert_eq!(asked("search", &A, 251), Ok(vec![3, 3]));
     assert_eq!(asked("search", &A, 1001), Ok(vec![5, 2]));
     assert_eq!(asked("up_to", &A, 250), Ok(vec![3, 3]));
-    let chord = gemcotton_tests::strips::packed(&[5, 5, 5]);
+    let chord = packed(&[5, 5, 5]);
     assert_eq!(asked("search", &chord, 5), Ok(vec![0, 2]));
     let found = [0, 1, 2, 3, 4].map(|i| asked("access", &A, i));
     let expected = [[100, 3], [250, 2], [250, 3], [400, 1], [1000, 2]];
@@ -72,8 +63,8 @@ fn sweeping() {
     sweep(&A, &[250, 250, 250], &[1, 1, 1], Ok(vec![3]));
     sweep(&A, &[], &[], Ok(vec![0]));
     sweep(&B, &[0, 1], &[0, 1], Ok(vec![1]));
-    // "A, node 5 storing 151": its time, 401, passes the root's. Remembered, it is not dropped for a
-    // target that a search leaves the root by its right side for.
+    // "A, node 5 storing 151": its time, 401, passes the root's. Remembered, it is not dropped for a target that a
+    // search leaves the root by its right side for.
     let falls = example(11);
     sweep(&falls, &[251, 401], &[2, 2], Ok(vec![3]));
     assert_eq!(asked("search", &falls, 401), Ok(vec![4, 2]));
@@ -104,13 +95,10 @@ fn refusals() {
 /// Vectors without entries, which lend a pointer to nothing.
 #[test]
 fn nothing_lent() {
-    let (bytes, words): (Vec<u8>, Vec<u32>) = (Vec::new(), Vec::new());
-    let needed = gemcotton::pack(&mut Vec::new(), &TIMES_A);
-    assert_eq!(needed, Err(gemcotton::Refusal::Short { needed: A.len() }));
-    let empty = gemcotton::pack(&mut Vec::new(), &words);
-    assert_eq!(empty, Err(gemcotton::Refusal::Empty));
-    let needed = gemcotton::unpack(&mut Vec::new(), &A);
-    assert_eq!(needed, Err(gemcotton::Refusal::Short { needed: 5 }));
-    assert_eq!(gemcotton::sweep(&mut Vec::new(), &A, &words), Ok(0));
-    assert_eq!(gemcotton::check(&bytes), Err(gemcotton::Refusal::Cut));
+    let short = |needed| Err(gemcotton::Refusal::Short { needed });
+    assert_eq!(gemcotton::pack(&mut Vec::new(), &TIMES_A), short(A.len()));
+    assert_eq!(gemcotton::pack(&mut Vec::new(), &Vec::new()), Err(gemcotton::Refusal::Empty));
+    assert_eq!(gemcotton::unpack(&mut Vec::new(), &A), short(5));
+    assert_eq!(gemcotton::sweep(&mut Vec::new(), &A, &Vec::new()), Ok(0));
+    assert_eq!(gemcotton::check(&Vec::new()), Err(gemcotton::Refusal::Cut));
 }

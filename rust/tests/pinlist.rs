@@ -6,12 +6,11 @@ use std::thread;
 use std::time::{Duration, Instant};
 
 use gemcotton_tests::corpus::kind;
-use gemcotton_tests::lists::{few_lists, mirrored, rising};
+use gemcotton_tests::lists::{mirrored, rising};
 use gemcotton_tests::random::Random;
 use gemcotton_tests::reference::strip as reference;
 use gemcotton_tests::reference::strip::{image, Refusal, PINS};
-use gemcotton_tests::reference::tree::HEIGHT;
-use gemcotton_tests::strips::{packed, past_the_greatest_time, zeros, A, B};
+use gemcotton_tests::strips::{packed, A, B};
 
 /// The program, which is built before the tests.
 const PINLIST: &str = concat!(env!("CARGO_MANIFEST_DIR"), "/../target/bin/pinlist");
@@ -63,8 +62,8 @@ fn listing(times: &[u32]) -> String {
     format!("pins {}\n{lines}", times.len())
 }
 
-/// What it must print, by the reference: "Longer input prints `too long`. It checks, then lists
-/// by access; a refused check prints only a line".
+/// What it must print, by the reference: "Longer input prints `too long`. It checks, then lists by access; a refused
+/// check prints only a line".
 fn expected(input: &[u8]) -> String {
     if input.len() > MOST {
         return "too long\n".to_string();
@@ -92,7 +91,7 @@ fn check_line(input: &[u8], line: &str) {
     check_output(input, &format!("{line}\n"));
 }
 
-// ---- Short strips ----
+// ---- Marked strips ----
 
 #[test]
 fn marked_strips() {
@@ -100,18 +99,6 @@ fn marked_strips() {
     assert_eq!(expected(&A), lines);
     check_output(&A, lines);
     check_output(&B, "pins 1\n0 0\n");
-}
-
-#[test]
-fn short_lists() {
-    let mut random = Random(1);
-    for n in (1..=12).chain([31, 100, 300]) {
-        for times in few_lists(n, 6, &mut random) {
-            let strip = packed(&times);
-            assert_eq!(expected(&strip), listing(&times));
-            check_output(&strip, &listing(&times));
-        }
-    }
 }
 
 #[test]
@@ -129,10 +116,10 @@ fn input_in_pieces() {
     assert!(found == listing(&times));
 }
 
-// ---- Refused strips ----
+// ---- Strips of the corpus ----
 
-/// The program must print what the reference says of every so many strips of a kind of the corpus,
-/// and the refusal that is known.
+/// The program must print what the reference says of every so many strips of a kind of the corpus, and the refusal that
+/// is known.
 fn check_kind(name: &str, every: usize) {
     let mut cases = 0;
     (kind(name).cases)(&mut Random(2), &mut |case| {
@@ -149,31 +136,18 @@ fn check_kind(name: &str, every: usize) {
 }
 
 #[test]
-fn refused_strips() {
-    check_kind("examples", 1);
-    check_kind("sets_of_faults", 7);
-    check_kind("cuts_and_bytes_added", 500);
+fn whole_strips() {
+    check_kind("short_lists", 20);
+    check_kind("bits_after_the_values", 50);
 }
 
 #[test]
-fn refusals_that_carry_much() {
-    // In width 1 the reference is quick, and so many pins fit.
-    let zeros = zeros();
-    let mut levels = zeros.clone();
-    levels[HEIGHT - 1].0 = 33;
-    check_line(&image(PINS, &levels), "refused 8 16");
-    // The last byte of the last part is missing.
-    let mut levels = zeros.clone();
-    levels[HEIGHT - 1].1.pop();
-    check_line(&image(PINS, &levels), "refused 9 65528");
-    // The last node passes the greatest time.
-    check_line(&past_the_greatest_time(HEIGHT), "refused 10 65535");
-    // The last right child whose parent is a left one stores 1 over their common time.
-    let mut levels = zeros.clone();
-    *levels[HEIGHT - 1].1.last_mut().expect("a part") |= 1 << 2;
-    check_line(&image(PINS, &levels), "refused 11 65531");
-    // Width 1 for zeros.
-    check_line(&image(PINS, &zeros), "refused 12 0");
+fn refused_strips() {
+    check_kind("examples", 1);
+    check_kind("refused_at_every_level", 5);
+    check_kind("refused_codes", 300);
+    check_kind("sets_of_faults", 7);
+    check_kind("cuts_and_bytes_added", 500);
 }
 
 #[test]
@@ -181,7 +155,6 @@ fn damaged_strips() {
     check_kind("every_byte", 1000);
     check_kind("refused_nodes", 50);
     check_kind("nodes_past_others", 50);
-    check_kind("bits_after_the_values", 50);
     check_kind("random_parts", 50);
 }
 
@@ -204,13 +177,6 @@ fn list_of_bytes(length: usize, random: &mut Random) -> (Vec<u32>, Vec<u8>) {
     }
 }
 
-/// A and bytes of zeros after it, this many in all.
-fn longer_a(length: usize) -> Vec<u8> {
-    let mut input = A.to_vec();
-    input.resize(length, 0);
-    input
-}
-
 #[test]
 fn as_many_bytes_as_it_takes() {
     let mut random = Random(3);
@@ -223,7 +189,7 @@ fn as_many_bytes_as_it_takes() {
     check_line(&strip, "refused 13 0");
     check_line(&vec![0; MOST], "refused 6 0");
     check_line(&random.bytes(MOST), "refused 6 0");
-    check_line(&longer_a(MOST), "refused 13 0");
+    check_line(&[&A[..], &vec![0; MOST - A.len()]].concat(), "refused 13 0");
     // A part with bytes after its value, and one that is a chain of chunks without an end.
     check_line(&image(1, &[(32, vec![0; MOST - 12])]), "refused 12 0");
     check_line(&image(1, &[(72, vec![0xFF; MOST - 12])]), "refused 9 1");
@@ -234,7 +200,6 @@ fn more_bytes_than_it_takes() {
     let mut random = Random(4);
     let (_, strip) = list_of_bytes(MOST + 1, &mut random);
     check_line(&strip, "too long");
-    check_line(&longer_a(MOST + 1), "too long");
     for length in [MOST + 1, MOST + 2, 2 * MOST, 1_000_000] {
         check_line(&vec![0; length], "too long");
         check_line(&random.bytes(length), "too long");

@@ -60,17 +60,3 @@ fn ranks_in_huge_lists() {
         }
     }
 }
-
-/// The reference has two ways to a rank.
-#[test]
-fn ranks_of_the_reference() {
-    for n in 0..=600 {
-        let mut ranks = ranks(n);
-        for (v, &found) in (1..).zip(&ranks) {
-            assert_eq!(rank(n, v), Some(found), "node {v} of {n}");
-        }
-        // Every position is some node's.
-        ranks.sort();
-        assert!(ranks.into_iter().eq(0..n), "{n} pins");
-    }
-}

@@ -1,6 +1,6 @@
-//! The calls on one strip: packs a list, checks the strip, looks it up by position and by time,
-//! walks it, and meets refusals. Prints what it finds, as in `c/example.stdout`; `c/example.c` is
-//! the same in C. From the repository's folder, with `target/staticlib/libstrip_c.a` built:
+//! The calls on one strip: packs a list, checks the strip, looks it up by position and by time, walks it, and meets
+//! refusals. Prints what it finds, as in `c/example.stdout`; `c/example.c` is the same in C. From the repository's
+//! folder, with `target/staticlib/libstrip_c.a` built:
 //!
 //! ```sh
 //! cargo run --manifest-path rust/Cargo.toml -p gemcotton --example calls
@@ -42,8 +42,7 @@ fn main() -> Result<(), Refusal> {
     let (strikes, nodes) = (found.strikes, found.nodes);
     println!("at or before 250 ms: {strikes} strikes (nodes opened: {nodes})");
 
-    // By many times in one walk. The pin count is the answer where there is no strike at or after
-    // the target.
+    // By many times in one walk. The pin count is the answer where there is no strike at or after the target.
     let mut positions = [0; TARGETS.len()];
     let nodes = sweep(&mut positions, strip, &TARGETS)?;
     println!("sweep (nodes opened: {nodes})");
@@ -88,8 +87,8 @@ fn main() -> Result<(), Refusal> {
         println!("  next position: {}", walker.next);
     }
 
-    // `Fetch` and `Time` carry a node, whose position `rank` tells. With the root's time changed to
-    // 0, its left child has a time below 0.
+    // `Fetch` and `Time` carry a node, whose position `rank` tells. With the root's time changed to 0, its left child
+    // has a time below 0.
     println!("with the root's time changed to 0");
     out[7 + 5 * height(pins)] = 0;
     if let Err(refusal @ Refusal::Time { node }) = check(&out[..length]) {

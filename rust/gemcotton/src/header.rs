@@ -12,8 +12,7 @@ pub(crate) struct Answer {
 }
 
 impl Answer {
-    /// The value and the nodes opened, or the refusal. Panics where the C header has no such
-    /// answer.
+    /// The value and the nodes opened, or the refusal. Panics where the C header has no such answer.
     #[inline]
     pub(crate) fn outcome(self) -> Result<(usize, usize), Refusal> {
         if self.refusal == 0 {
@@ -88,7 +87,7 @@ mod tests {
     use std::panic::catch_unwind;
 
     /// Whether the answer of these three numbers panics where a call like this reads it.
-    fn panics<T>(refusal: usize, value: usize, nodes: usize, read: fn(Answer) -> T) -> bool {
+    fn panics<T>([refusal, value, nodes]: [usize; 3], read: fn(Answer) -> T) -> bool {
         let answer = Answer { refusal, value, nodes };
         catch_unwind(|| read(answer)).is_err()
     }
@@ -96,22 +95,15 @@ mod tests {
     #[test]
     fn answers_that_the_header_does_not_have_panic() {
         // No refusal of this number, one that carries nothing, and nodes at a refusal.
-        for (refusal, value, nodes) in [(999, 0, 0), (5, 1, 0), (9, 1, 1)] {
-            assert!(panics(refusal, value, nodes, Answer::outcome));
+        for answer in [[999, 0, 0], [5, 1, 0], [9, 1, 1]] {
+            assert!(panics(answer, Answer::outcome));
         }
-        assert!(!panics(9, 1, 0, Answer::outcome));
+        assert!(!panics([9, 1, 0], Answer::outcome));
         // Nodes of a call that counts none, and a value of one that gives the nodes alone.
-        assert!(panics(0, 7, 1, Answer::value) && !panics(0, 7, 0, Answer::value));
-        assert!(panics(0, 1, 3, Answer::nodes) && !panics(0, 0, 3, Answer::nodes));
-        // A time without nodes, and one of more than 32 bits.
-        for read in [Answer::time, |answer: Answer| answer.time_or_end().map(|found| found.expect("a time"))] {
-            assert!(panics(0, 7, 0, read) && panics(0, 1 << 32, 3, read));
-            assert!(!panics(0, 7, 3, read));
-        }
-        assert_eq!(answer_of_end().time_or_end(), Ok(None));
-    }
-
-    fn answer_of_end() -> Answer {
-        Answer { refusal: 0, value: 0, nodes: 0 }
+        assert!(panics([0, 7, 1], Answer::value) && !panics([0, 7, 0], Answer::value));
+        assert!(panics([0, 1, 3], Answer::nodes) && !panics([0, 0, 3], Answer::nodes));
+        // A time without nodes, and one of more than 32 bits. End is not a time.
+        assert!(panics([0, 7, 0], Answer::time) && panics([0, 1 << 32, 3], Answer::time));
+        assert!(!panics([0, 7, 3], Answer::time) && !panics([0, 0, 0], Answer::time_or_end));
     }
 }

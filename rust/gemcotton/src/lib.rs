@@ -1,9 +1,8 @@
 //! Pin strips, by the proved library behind `include/gemcotton.h`.
 //!
-//! A list is strike times in milliseconds, none less than the one before. Equal times are a
-//! chord, and positions run from 0. A strip holds a list in bytes; it is accepted when some list
-//! packs to it. Every call takes any input and answers with what it gives or with a [`Refusal`];
-//! it panics only where the library breaks the C header's promises.
+//! A list is strike times in milliseconds, none less than the one before. Equal times are a chord, and positions run
+//! from 0. A strip holds a list in bytes; it is accepted when some list packs to it. Every call takes any input and
+//! answers with what it gives or with a [`Refusal`]; it panics only where the library breaks the C header's promises.
 //!
 //! ```
 //! use gemcotton::{access, check, pack, repeat, search, sweep, unpack, up_to, Refusal, Walker};
@@ -41,32 +40,27 @@
 //!
 //! # Calls
 //!
-//! [`pack`] makes the strip of a list. [`check`] says whether a strip is accepted, and [`unpack`]
-//! reads the list of one that is. [`access`] gives the time at a position. [`search`] gives the
-//! first position at or after a time, [`sweep`] those of many times in one walk, and [`up_to`]
-//! counts the strikes at or before a time. [`repeat`] finds the first strike that is too soon after
-//! the one before. A [`Walker`] gives one time after the other, by [`step`](Walker::step) or in a
-//! `for` loop. [`height`] and [`root_place`] tell the shape of the tree, and [`rank`] the position
-//! of a node.
+//! [`pack`] makes the strip of a list. [`check`] says whether a strip is accepted, and [`unpack`] reads the list of one
+//! that is. [`access`] gives the time at a position. [`search`] gives the first position at or after a time, [`sweep`]
+//! those of many times in one walk, and [`up_to`] counts the strikes at or before a time. [`repeat`] finds the first
+//! strike that is too soon after the one before. A [`Walker`] gives one time after the other, by [`step`](Walker::step)
+//! or in a `for` loop. [`height`] and [`root_place`] tell the shape of the tree, and [`rank`] the position of a node.
 //!
 //! # Opening
 //!
-//! Every call that reads a strip opens it first. It is refused where the strip is cut short in
-//! its first 7 bytes ([`Cut`](Refusal::Cut)), then by its [`Mark`](Refusal::Mark), its
-//! [`Version`](Refusal::Version), a pin count of 0 ([`Empty`](Refusal::Empty)), level entries
-//! cut short ([`Cut`](Refusal::Cut)), the first refused [`Code`](Refusal::Code) of a level, and a
-//! wrong [`Length`](Refusal::Length), in this order.
+//! Every call that reads a strip opens it first. It is refused where the strip is cut short in its first 7 bytes
+//! ([`Cut`](Refusal::Cut)), then by its [`Mark`](Refusal::Mark), its [`Version`](Refusal::Version), a pin count of 0
+//! ([`Empty`](Refusal::Empty)), level entries cut short ([`Cut`](Refusal::Cut)), the first refused
+//! [`Code`](Refusal::Code) of a level, and a wrong [`Length`](Refusal::Length), in this order.
 //!
 //! # Reading all positions
 //!
-//! After opening, [`check`], [`unpack`] and [`repeat`] read the positions from 0 on. At each they
-//! are refused as [`access`] is there, then by [`TimesFall`](Refusal::TimesFall) where the time
-//! is lower than the one before.
+//! After opening, [`check`], [`unpack`] and [`repeat`] read the positions from 0 on. At each they are refused as
+//! [`access`] is there, then by [`TimesFall`](Refusal::TimesFall) where the time is lower than the one before.
 //!
 //! # Stack
 //!
-//! The bytes of the stack that a call takes, rounded up. They are measured on x86-64, not proved.
-//! No call uses a heap.
+//! The bytes of the stack that a call takes, rounded up. They are measured on x86-64, not proved. No call uses a heap.
 //!
 //! | call | up to 1,023 pins | more |
 //! |---|---:|---:|
@@ -78,9 +72,8 @@
 //!
 //! # Linking
 //!
-//! This package links `target/staticlib/libstrip_c.a`, which `rt staticlib strip_c` makes in the
-//! repository's folder. The archive needs `memcpy` and `memset` from the C library, and nothing
-//! else.
+//! This package links `target/staticlib/libstrip_c.a`, which `rt staticlib strip_c` makes in the repository's folder.
+//! The archive needs `memcpy` and `memset` from the C library, and nothing else.
 
 #![warn(missing_docs)]
 
@@ -146,9 +139,8 @@ pub fn root_place(n: usize) -> usize {
     unsafe { gemcotton_root_place(n) }
 }
 
-/// The position of a node in a list of n pins, such as one that [`Fetch`](Refusal::Fetch) or
-/// [`Time`](Refusal::Time) carries. Nodes are numbered from 1, the root; none where the number is
-/// no node's, so 0 or above n.
+/// The position of a node in a list of n pins, such as one that [`Fetch`](Refusal::Fetch) or [`Time`](Refusal::Time)
+/// carries. Nodes are numbered from 1, the root; none where the number is no node's, so 0 or above n.
 #[inline]
 pub fn rank(n: usize, node: usize) -> Option<usize> {
     // SAFETY: takes numbers and requires nothing.
@@ -156,24 +148,23 @@ pub fn rank(n: usize, node: usize) -> Option<usize> {
     (position < n).then_some(position)
 }
 
-/// Packs the list into a strip at the front of `out`, whose later bytes keep their content.
-/// Gives the strip's length in bytes.
+/// Packs the list into a strip at the front of `out`, whose later bytes keep their content. Gives the strip's length in
+/// bytes.
 ///
-/// Refused, in this order, with nothing written: [`Empty`](Refusal::Empty),
-/// [`TooMany`](Refusal::TooMany), [`ListFalls`](Refusal::ListFalls),
-/// [`Short`](Refusal::Short), which carries the bytes needed, also for an empty `out`.
+/// Refused, in this order, with nothing written: [`Empty`](Refusal::Empty), [`TooMany`](Refusal::TooMany),
+/// [`ListFalls`](Refusal::ListFalls), [`Short`](Refusal::Short), which carries the bytes needed, also for an empty
+/// `out`.
 #[inline]
 pub fn pack(out: &mut [u8], times: &[u32]) -> Result<usize, Refusal> {
-    // SAFETY: the pointers and lengths are slices', so not null. Only `out` is written, and it
-    // overlaps nothing.
+    // SAFETY: the pointers and lengths are slices', so not null. Only `out` is written, and it overlaps nothing.
     let answer = unsafe { gemcotton_pack(out.as_mut_ptr(), out.len(), times.as_ptr(), times.len()) };
     answer.value()
 }
 
 /// Gives the time at position i and the nodes opened, from the root to that time's node.
 ///
-/// Refused as in [opening](crate#opening), then by [`Position`](Refusal::Position), then by
-/// [`Fetch`](Refusal::Fetch) or [`Time`](Refusal::Time) at the first node that has it.
+/// Refused as in [opening](crate#opening), then by [`Position`](Refusal::Position), then by [`Fetch`](Refusal::Fetch)
+/// or [`Time`](Refusal::Time) at the first node that has it.
 #[inline]
 pub fn access(strip: &[u8], i: usize) -> Result<Accessed, Refusal> {
     // SAFETY: the pointer and length are a slice's, so not null.
@@ -181,13 +172,12 @@ pub fn access(strip: &[u8], i: usize) -> Result<Accessed, Refusal> {
     answer.time()
 }
 
-/// Gives the position of the first strike at or after the target, or the pin count, and the
-/// nodes opened. From the root it goes left where a node's time is at or above the target, else
-/// right; the position is that of the last node left by its left side, or the pin count. So it
-/// answers on strips that are not accepted as well.
+/// Gives the position of the first strike at or after the target, or the pin count, and the nodes opened. From the root
+/// it goes left where a node's time is at or above the target, else right; the position is that of the last node left
+/// by its left side, or the pin count. So it answers on strips that are not accepted as well.
 ///
-/// Refused as in [opening](crate#opening), then by [`Fetch`](Refusal::Fetch) or
-/// [`Time`](Refusal::Time) at the first node that has it.
+/// Refused as in [opening](crate#opening), then by [`Fetch`](Refusal::Fetch) or [`Time`](Refusal::Time) at the first
+/// node that has it.
 #[inline]
 pub fn search(strip: &[u8], target: u32) -> Result<Searched, Refusal> {
     // SAFETY: the pointer and length are a slice's, so not null.
@@ -196,9 +186,8 @@ pub fn search(strip: &[u8], target: u32) -> Result<Searched, Refusal> {
     Ok(Searched { position, nodes })
 }
 
-/// Gives the number of strikes at or before the time, and the nodes opened: the pin count and
-/// 0 nodes for 4,294,967,295, otherwise what [`search`] gives for the time plus 1, also on
-/// strips that are not accepted.
+/// Gives the number of strikes at or before the time, and the nodes opened: the pin count and 0 nodes for
+/// 4,294,967,295, otherwise what [`search`] gives for the time plus 1, also on strips that are not accepted.
 ///
 /// Refused as [`search`] is; for 4,294,967,295 in [opening](crate#opening) alone.
 #[inline]
@@ -209,20 +198,18 @@ pub fn up_to(strip: &[u8], time: u32) -> Result<UpTo, Refusal> {
     Ok(UpTo { strikes, nodes })
 }
 
-/// Searches for targets, none less than the one before, in one walk. Writes to `answers` the
-/// position that [`search`] gives for each target, and gives the nodes opened in all: the different
-/// ones that those searches open. No targets open none.
+/// Searches for targets, none less than the one before, in one walk. Writes to `answers` the position that [`search`]
+/// gives for each target, and gives the nodes opened in all: the different ones that those searches open. No targets
+/// open none.
 ///
-/// That is said of an accepted strip. On any other too, the first target goes as a search does,
-/// and the nodes left by their left side are remembered. Each later target drops remembered nodes
-/// from the deepest up while their time is below it, and goes on from the right child of the last
-/// dropped, if any. A target's position is that of the deepest node then remembered, or the pin
-/// count.
+/// That is said of an accepted strip. On any other too, the first target goes as a search does, and the nodes left by
+/// their left side are remembered. Each later target drops remembered nodes from the deepest up while their time is
+/// below it, and goes on from the right child of the last dropped, if any. A target's position is that of the deepest
+/// node then remembered, or the pin count.
 ///
-/// Refused, with nothing written, as in [opening](crate#opening), then by
-/// [`Answers`](Refusal::Answers), then by [`TargetsFall`](Refusal::TargetsFall). Then refused by
-/// [`Fetch`](Refusal::Fetch) or [`Time`](Refusal::Time) at the first node that has it: the answers
-/// of the targets before the one that comes to it have been written, no others.
+/// Refused, with nothing written, as in [opening](crate#opening), then by [`Answers`](Refusal::Answers), then by
+/// [`TargetsFall`](Refusal::TargetsFall). Then refused by [`Fetch`](Refusal::Fetch) or [`Time`](Refusal::Time) at the
+/// first node that has it: the answers of the targets before the one that comes to it have been written, no others.
 ///
 /// ```
 /// use gemcotton::{pack, sweep, Refusal};
@@ -241,8 +228,7 @@ pub fn up_to(strip: &[u8], time: u32) -> Result<UpTo, Refusal> {
 /// ```
 #[inline]
 pub fn sweep(answers: &mut [u32], strip: &[u8], targets: &[u32]) -> Result<usize, Refusal> {
-    // SAFETY: the pointers and lengths are slices', so not null. Only `answers` is written, and
-    // it overlaps nothing.
+    // SAFETY: the pointers and lengths are slices', so not null. Only `answers` is written, and it overlaps nothing.
     let answer = unsafe {
         gemcotton_sweep(
             answers.as_mut_ptr(),
@@ -258,9 +244,8 @@ pub fn sweep(answers: &mut [u32], strip: &[u8], targets: &[u32]) -> Result<usize
 
 /// Gives the pin count of an accepted strip, and refuses every other one.
 ///
-/// Refused as in [opening](crate#opening), then in
-/// [reading all positions](crate#reading-all-positions), then by [`Image`](Refusal::Image)
-/// where packing the times so read gives other bytes.
+/// Refused as in [opening](crate#opening), then in [reading all positions](crate#reading-all-positions), then by
+/// [`Image`](Refusal::Image) where packing the times so read gives other bytes.
 #[inline]
 pub fn check(strip: &[u8]) -> Result<usize, Refusal> {
     // SAFETY: the pointer and length are a slice's, so not null.
@@ -268,25 +253,23 @@ pub fn check(strip: &[u8]) -> Result<usize, Refusal> {
     answer.value()
 }
 
-/// Writes the list that packs to the strip to the front of `out`, whose later entries keep
-/// their content. Gives the pin count.
+/// Writes the list that packs to the strip to the front of `out`, whose later entries keep their content. Gives the pin
+/// count.
 ///
-/// Refused, with nothing written, as [`check`] is, then by [`Short`](Refusal::Short), which
-/// carries the pin count, also for an empty `out`.
+/// Refused, with nothing written, as [`check`] is, then by [`Short`](Refusal::Short), which carries the pin count, also
+/// for an empty `out`.
 #[inline]
 pub fn unpack(out: &mut [u32], strip: &[u8]) -> Result<usize, Refusal> {
-    // SAFETY: the pointers and lengths are slices', so not null. Only `out` is written, and it
-    // overlaps nothing.
+    // SAFETY: the pointers and lengths are slices', so not null. Only `out` is written, and it overlaps nothing.
     let answer = unsafe { gemcotton_unpack(out.as_mut_ptr(), out.len(), strip.as_ptr(), strip.len()) };
     answer.value()
 }
 
-/// Gives the first position, from 1 on, whose time is less than `r` milliseconds after the one
-/// before, or none. It answers on strips that are not accepted as well.
+/// Gives the first position, from 1 on, whose time is less than `r` milliseconds after the one before, or none. It
+/// answers on strips that are not accepted as well.
 ///
-/// Refused as in [opening](crate#opening), then in
-/// [reading all positions](crate#reading-all-positions) up to the one given: a position's
-/// refusals come before its gap, and those of later positions are not told.
+/// Refused as in [opening](crate#opening), then in [reading all positions](crate#reading-all-positions) up to the one
+/// given: a position's refusals come before its gap, and those of later positions are not told.
 #[inline]
 pub fn repeat(strip: &[u8], r: u32) -> Result<Option<usize>, Refusal> {
     // SAFETY: the pointer and length are a slice's, so not null.

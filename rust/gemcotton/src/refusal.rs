@@ -5,8 +5,8 @@ use std::fmt;
 
 use crate::MAX_PINS;
 
-/// Makes [`Refusal`] of a table, in which each refusal stands once: its number, its name, what it
-/// carries if it carries anything, and its sentence. `include/gemcotton.h` has the same for C.
+/// Makes [`Refusal`] of a table, in which each refusal stands once: its number, its name, what it carries if it carries
+/// anything, and its sentence. `include/gemcotton.h` has the same for C.
 macro_rules! refusals {
     ($(
         $(#[$condition:meta])*
@@ -14,9 +14,8 @@ macro_rules! refusals {
     )*) => {
         /// Why a call was refused.
         ///
-        /// Each case has a number, which [`number`](Refusal::number) gives and C programs see. It
-        /// may carry what was met, which [`carried`](Refusal::carried) gives. Shown, it is a
-        /// sentence.
+        /// Each case has a number, which [`number`](Refusal::number) gives and C programs see. It may carry what was
+        /// met, which [`carried`](Refusal::carried) gives. Shown, it is a sentence.
         #[derive(Debug, Clone, Copy, PartialEq, Eq)]
         #[non_exhaustive]
         pub enum Refusal {
@@ -44,8 +43,7 @@ macro_rules! refusals {
                 }
             }
 
-            /// What this refusal carries: a position, bytes or entries, a level, a node or an
-            /// index, else 0.
+            /// What this refusal carries: a position, bytes or entries, a level, a node or an index, else 0.
             pub fn carried(&self) -> usize {
                 match self {
                     $(Refusal::$name { $($carried)? } => 0 $(+ $carried)?,)*
@@ -127,59 +125,39 @@ mod tests {
 
     const HEADER: &str = include_str!("../../../include/gemcotton.h");
 
-    /// The number of each name in the header, where it stands as `  NAME = 5, ...`.
-    fn number(name: &str) -> usize {
-        let stands = |line: &&str| line.trim().starts_with(&format!("{name} = "));
-        let line = HEADER.lines().find(stands).expect("a refusal's number");
-        let digits = line.split(" = ").nth(1).expect("a number");
-        let digits: String = digits.chars().take_while(char::is_ascii_digit).collect();
-        digits.parse().expect("a number")
-    }
-
-    /// The numbers and sentences of the header, which stand as `  case NAME: return "...";`.
-    fn sentences() -> Vec<(usize, &'static str)> {
-        let sentence = |line: &'static str| {
-            let (name, sentence) = line.trim().strip_prefix("case ")?.split_once(": return \"")?;
-            Some((number(name), sentence.strip_suffix("\";")?))
-        };
-        HEADER.lines().filter_map(sentence).collect()
-    }
-
     /// The refusals that there are, each carrying this or 0.
     fn refusals(carried: usize) -> impl Iterator<Item = Refusal> {
-        let refusal = move |number| Refusal::new(number, carried).or(Refusal::new(number, 0));
-        (0..1000).filter_map(refusal)
+        (0..1000).filter_map(move |number| Refusal::new(number, carried).or(Refusal::new(number, 0)))
+    }
+
+    /// The name and the number of a line `  NAME = 5, ...` of the header.
+    fn numbered(line: &'static str) -> Option<(&'static str, usize)> {
+        let (name, rest) = line.trim().split_once(" = ").filter(|(name, _)| name.starts_with("GEMCOTTON_"))?;
+        let digits = rest.split(|c: char| !c.is_ascii_digit()).next()?;
+        Some((name, digits.parse().expect("a number")))
+    }
+
+    /// The sentence of this name, which stands as `  case NAME: return "...";`, as printf prints it with 7.
+    fn sentence(name: &str) -> String {
+        let case = format!("    case {name}: return \"");
+        let format = HEADER.lines().find_map(|line| line.strip_prefix(&case)).expect("a sentence");
+        assert!(format.matches('%').count() <= 1, "{format}");
+        format.trim_end_matches("\";").replace("%zu", "7")
+    }
+
+    #[test]
+    fn numbers_and_sentences_of_the_header() {
+        let numbered = HEADER.lines().filter_map(numbered).filter(|&(name, _)| name != "GEMCOTTON_NONE");
+        let told: Vec<(usize, String)> = numbered.map(|(name, number)| (number, sentence(name))).collect();
+        let shown: Vec<(usize, String)> = refusals(7).map(|why| (why.number(), why.to_string())).collect();
+        assert_eq!(told, shown);
+        assert_eq!(HEADER.matches(": return \"").count(), told.len() + 1);
     }
 
     #[test]
     fn numbers_and_what_is_carried() {
-        for carried in [0, 1, 7, usize::MAX] {
-            for refusal in refusals(carried) {
-                let (number, carried) = (refusal.number(), refusal.carried());
-                assert_eq!(Refusal::new(number, carried), Some(refusal));
-            }
+        for refusal in [0, 1, 7, usize::MAX].into_iter().flat_map(refusals) {
+            assert_eq!(Refusal::new(refusal.number(), refusal.carried()), Some(refusal));
         }
-    }
-
-    #[test]
-    fn sentences_of_the_header() {
-        let mut told = Vec::new();
-        for (number, format) in sentences() {
-            told.push((number, format.replace("%zu", "7")));
-            assert!(format.matches('%').count() <= 1, "{format}");
-        }
-        told.sort();
-        let shown: Vec<(usize, String)> = refusals(7).map(|refusal| (refusal.number(), refusal.to_string())).collect();
-        assert_eq!(told, shown);
-    }
-
-    #[test]
-    fn numbers_of_the_header() {
-        let names = HEADER.lines().filter_map(|line| line.trim().split_once(" = "));
-        let names = names.map(|(name, _)| name).filter(|name| name.starts_with("GEMCOTTON_"));
-        let mut numbers: Vec<usize> = names.map(number).collect();
-        numbers.retain(|&number| number != 0);
-        let ours: Vec<usize> = refusals(0).map(|refusal| refusal.number()).collect();
-        assert_eq!(numbers, ours);
     }
 }

@@ -7,11 +7,10 @@ use crate::{Accessed, Refusal};
 
 /// A pin walker: the strip that it walks, and the next position, 0 at the start.
 ///
-/// [`step`](Walker::step) gives the time at the next position and moves the walker on by one. In a
-/// `for` loop a walker gives the times from its next position on; [`Times`] says where the loop
-/// ends. A walker takes any strip, and does not look whether it is accepted, as
-/// [`check`](crate::check) does. Each step opens the strip and goes down from the root, while
-/// [`unpack`](crate::unpack) opens each node once.
+/// [`step`](Walker::step) gives the time at the next position and moves the walker on by one. In a `for` loop a walker
+/// gives the times from its next position on; [`Times`] says where the loop ends. A walker takes any strip, and does
+/// not look whether it is accepted, as [`check`](crate::check) does. Each step opens the strip and goes down from the
+/// root, while [`unpack`](crate::unpack) opens each node once.
 ///
 /// ```
 /// use gemcotton::{pack, Refusal, Walker};
@@ -46,13 +45,12 @@ impl<'a> Walker<'a> {
         Walker { strip, next: 0 }
     }
 
-    /// Gives the time at the next position and the nodes opened, 1 or more, as
-    /// [`access`](crate::access) does there, and moves the walker on by one. Gives none, which is
-    /// end, where the next position is at or beyond the pin count.
+    /// Gives the time at the next position and the nodes opened, 1 or more, as [`access`](crate::access) does there,
+    /// and moves the walker on by one. Gives none, which is end, where the next position is at or beyond the pin count.
     ///
-    /// Refused as in [opening](crate#opening), also at the end, then by [`Fetch`](Refusal::Fetch)
-    /// or [`Time`](Refusal::Time) at the first node that has it. End and refusals do not move the
-    /// walker, so another step gives the same.
+    /// Refused as in [opening](crate#opening), also at the end, then by [`Fetch`](Refusal::Fetch) or
+    /// [`Time`](Refusal::Time) at the first node that has it. End and refusals do not move the walker, so another step
+    /// gives the same.
     ///
     /// ```
     /// use gemcotton::{pack, Accessed, Refusal, Walker};
@@ -73,8 +71,8 @@ impl<'a> Walker<'a> {
     /// ```
     #[inline]
     pub fn step(&mut self) -> Result<Option<Accessed>, Refusal> {
-        // SAFETY: `next` is one entry, and the other pointer and the length are a slice's, so not
-        // null. Only `next` is written, and it overlaps nothing.
+        // SAFETY: `next` is one entry, and the other pointer and the length are a slice's, so not null. Only `next` is
+        // written, and it overlaps nothing.
         let answer = unsafe { gemcotton_step(&mut self.next, self.strip.as_ptr(), self.strip.len()) };
         answer.time_or_end()
     }
@@ -93,10 +91,9 @@ impl<'a> IntoIterator for Walker<'a> {
 
 /// The times that a [`Walker`] gives from its next position on, each with the nodes opened.
 ///
-/// Each item is what a [`step`](Walker::step) gives. There are no more items at the end, nor after
-/// the first refusal, which is the last item: a refused walker does not move, so it would be
-/// refused for ever. So every `for` loop over it ends, and where no item is a refusal, the walker
-/// has come to the end.
+/// Each item is what a [`step`](Walker::step) gives. There are no more items at the end, nor after the first refusal,
+/// which is the last item: a refused walker does not move, so it would be refused for ever. So every `for` loop over it
+/// ends, and where no item is a refusal, the walker has come to the end.
 ///
 /// ```
 /// use gemcotton::{pack, Refusal, Walker};

@@ -4,9 +4,8 @@ use super::{proved, Input, Outcome};
 use crate::reference::strip::{self, Access, Refusal};
 use crate::strips::{is_fixed, pins};
 
-/// The access of calls that may read many positions. The reference reads all bits of a chunked level
-/// anew for each position, so that the proved one, which is compared with it, takes its place in
-/// long strips.
+/// The access of calls that may read many positions. The reference reads all bits of a chunked level anew for each
+/// position, so that the proved one, which is compared with it, takes its place in long strips.
 fn quickest_access(bytes: &[u8]) -> Access {
     if pins(bytes) < 1000 || is_fixed(bytes) {
         return strip::access;

@@ -1,5 +1,5 @@
-//! What the calls are asked: more of a strip that reads as a list, where the list alone tells the
-//! answers, and less where the slow reference must tell them.
+//! What the calls are asked: more of a strip that reads as a list, where the list alone tells the answers, and less
+//! where the slow reference must tell them.
 
 use super::Input;
 use crate::corpus::Case;
@@ -57,32 +57,19 @@ pub fn unpack(case: &Case, random: &mut Random) -> Vec<Input> {
     }
 }
 
-/// Gaps and one more than they, all of a short list, some of a long one; and other numbers.
+/// The least gap and some others, one more than they, and other numbers.
 pub fn repeat(case: &Case, random: &mut Random) -> Vec<Input> {
-    let mut asked = vec![0, 1, 1_340, u32::MAX as usize];
-    if !case.reads() {
-        asked.push(random.of_width(6) as usize);
-        // It reads all positions each time.
-        asked.truncate(if pins(&case.strip) > 1000 { 2 } else { 5 });
-        return numbers(asked);
+    let mut asked = vec![0, 1, 1_340, u32::MAX, random.of_width(6)];
+    // It reads all positions each time.
+    asked.truncate(if pins(&case.strip) > 1000 { 2 } else { 5 });
+    if let Some(times) = case.list.as_deref().filter(|_| case.reads()) {
+        let mut gaps: Vec<u32> = times.windows(2).map(|pair| pair[1] - pair[0]).collect();
+        gaps.sort();
+        gaps.dedup();
+        let some = gaps.iter().step_by(1 + gaps.len() / 10).take(if times.len() > 1000 { 1 } else { 10 });
+        asked.extend(some.flat_map(|&gap| [gap, gap.saturating_add(1)]));
     }
-    let times = case.list.as_deref().unwrap_or_default();
-    let gaps = times.windows(2).map(|pair| (pair[1] - pair[0]) as usize);
-    let mut gaps: Vec<usize> = gaps.collect();
-    gaps.sort();
-    gaps.dedup();
-    let most = match times.len() {
-        0..=30 => 30,
-        31..=300 => 4,
-        _ => 1,
-    };
-    // The least gap stays.
-    while gaps.len() > most {
-        gaps.swap_remove(1 + random.below(gaps.len() - 1));
-    }
-    let greatest = u32::MAX as usize;
-    asked.extend(gaps.into_iter().flat_map(|gap| [gap, greatest.min(gap + 1)]));
-    numbers(asked)
+    numbers(asked.into_iter().map(|r| r as usize))
 }
 
 // ---- Positions ----
@@ -131,8 +118,7 @@ pub fn step(case: &Case, random: &mut Random) -> Vec<Input> {
     access(case, random)
 }
 
-/// From the start or anywhere, and from the end or beyond. Where the reference is slow, near the
-/// end.
+/// From the start or anywhere, and from the end or beyond. Where the reference is slow, near the end.
 pub fn walk(case: &Case, random: &mut Random) -> Vec<Input> {
     let n = pins(&case.strip);
     let from = match n {
@@ -198,8 +184,7 @@ fn target(times: &[u32], sort: usize, random: &mut Random) -> u32 {
     }
 }
 
-/// So many targets for a sweep, of one sort. In half of the calls about half of the targets equal
-/// another.
+/// So many targets for a sweep, of one sort. In half of the calls about half of the targets equal another.
 fn targets(times: &[u32], count: usize, random: &mut Random) -> Vec<u32> {
     let (sort, repeated) = (random.below(SORTS), random.below(2) == 0);
     let mut targets = Vec::new();
@@ -212,8 +197,7 @@ fn targets(times: &[u32], count: usize, random: &mut Random) -> Vec<u32> {
     sorted(targets)
 }
 
-/// Sweeps of none to many targets. One in ten has another number of answers, and one in ten has
-/// targets in no order.
+/// Sweeps of none to many targets. One in ten has another number of answers, and one in ten has targets in no order.
 pub fn sweep(case: &Case, random: &mut Random) -> Vec<Input> {
     let times = times(case, random);
     // From 64 targets on a sweep has marks.

@@ -58,28 +58,16 @@ pub fn random_parts(random: &mut Random, visit: Visit) {
     });
 }
 
-/// Bytes of one part go to the next one, or of all parts to others.
+/// The end of one part, or of every one, lies elsewhere in the bytes of it and the next.
 pub fn moved_parts(random: &mut Random, visit: Visit) {
     damaged(4, random, visit, |levels, round, random| {
-        let (h, bytes) = (levels.len(), levels.iter().flat_map(|level| &level.1));
-        let bytes: Vec<u8> = bytes.copied().collect();
-        let mut end = 0;
-        let mut ends: Vec<usize> = levels.iter().map(|level| level.1.len()).collect();
-        ends.iter_mut().for_each(|length| {
-            end += *length;
-            *length = end;
-        });
-        let one = random.below(h);
-        for (level, end) in ends[..h - 1].iter_mut().enumerate() {
+        let one = random.below(levels.len());
+        for level in 1..levels.len() {
             if round % 2 == 0 || level == one {
-                *end = random.below(bytes.len() + 1);
+                let both = [&levels[level - 1].1[..], &levels[level].1].concat();
+                let (first, second) = both.split_at(random.below(both.len() + 1));
+                (levels[level - 1].1, levels[level].1) = (first.to_vec(), second.to_vec());
             }
-        }
-        ends.sort();
-        let mut start = 0;
-        for ((_, part), end) in levels.iter_mut().zip(ends) {
-            *part = bytes[start..end].to_vec();
-            start = end;
         }
     });
 }
@@ -124,38 +112,33 @@ pub fn changed_bytes(random: &mut Random, visit: Visit) {
     }
 }
 
-/// The lowest level, of one to three nodes, is in each chunked code and has each part of one byte,
-/// or none. The others are far from the ends.
-pub fn every_part_of_one_byte(_: &mut Random, visit: Visit) {
-    short_parts(&mut |image| {
-        visit(image(&[]));
-        (0..=255).for_each(|byte| visit(image(&[byte])));
-    });
-}
-
-/// As with one byte. There are 1.6 million of them.
-pub fn every_part_of_two_bytes(_: &mut Random, visit: Visit) {
-    short_parts(&mut |image| {
-        (0..=65_535u16).for_each(|bytes| visit(image(&bytes.to_be_bytes())));
-    });
-}
-
-/// Gives what makes a strip with a short part.
-fn short_parts(visit: &mut dyn FnMut(&dyn Fn(&[u8]) -> Case)) {
+/// The lowest level, of one to three nodes, is in each chunked code and has one of these parts. The others are far from
+/// the ends.
+fn short_parts(parts: &[Vec<u8>], visit: Visit) {
     let root = (32, vec![0x80, 0, 0, 0]);
     let above = [vec![], vec![root.clone()], vec![root, (0, vec![])]];
     for (n, above) in [1, 3, 6].into_iter().zip(above) {
         for code in 65..=72 {
-            visit(&|part| {
-                let lowest = (code, part.to_vec());
-                Case::strip(image(n, &[&above[..], &[lowest]].concat()))
-            });
+            for part in parts {
+                visit(Case::strip(image(n, &[&above[..], &[(code, part.clone())]].concat())));
+            }
         }
     }
 }
 
-/// Gives a level of a long list another code or a shorter part, or changes bytes of it and of
-/// those below it, round by round.
+pub fn every_part_of_one_byte(_: &mut Random, visit: Visit) {
+    let parts: Vec<Vec<u8>> = (0..=255).map(|byte| vec![byte]).chain([vec![]]).collect();
+    short_parts(&parts, visit);
+}
+
+/// There are 1.6 million of them.
+pub fn every_part_of_two_bytes(_: &mut Random, visit: Visit) {
+    let parts: Vec<Vec<u8>> = (0..=65_535u16).map(|bytes| bytes.to_be_bytes().to_vec()).collect();
+    short_parts(&parts, visit);
+}
+
+/// Gives a level of a long list another code or a shorter part, or changes bytes of it and of those below it, round by
+/// round.
 fn damage_level(levels: &mut [Level], round: usize, random: &mut Random) {
     let level = random.below(levels.len());
     let (code, part) = &mut levels[level];
@@ -173,8 +156,7 @@ fn damage_level(levels: &mut [Level], round: usize, random: &mut Random) {
     }
 }
 
-/// Long lists with a damaged level, in the chosen codes and in fixed ones, and the longest list
-/// with bytes changed.
+/// Long lists with a damaged level, in the chosen codes and in fixed ones, and the longest list with bytes changed.
 pub fn damaged_long_lists(random: &mut Random, visit: Visit) {
     let codes: [fn(usize, &[u32]) -> u8; 2] = [chosen, |_, values| least_width(values)];
     for code_for in codes {

@@ -20,19 +20,19 @@ pub fn unordered(random: &mut Random, visit: Visit) {
     }
 }
 
-/// The node above v that its subtree passes as it moves away from v's parent: for a left child
-/// the nearest one that it lies right of, for a right child the nearest that it lies left of. So
-/// it is never the parent.
-fn passed(v: usize) -> Option<usize> {
-    let mut below = v;
-    while below > 1 && is_left(below) == is_left(v) {
-        below /= 2;
+/// Whether the subtree of v, moving away from v's parent, comes to another node: for a left child one that it lies right
+/// of, for a right child one that it lies left of.
+fn can_pass(n: usize, v: usize) -> bool {
+    let (first, length) = stretch(n, v);
+    if is_left(v) {
+        first > 0
+    } else {
+        first + length < n
     }
-    (below > 1).then_some(below / 2)
 }
 
-/// The times where the subtree of v moves away from v's parent, to the time of the node that it
-/// then passes and this much further. Every node stays on its own side of its parent.
+/// The times where the subtree of v moves away from v's parent, to the time of the node that it then passes and this
+/// much further. Every node stays on its own side of its parent.
 fn moved(times: &[u32], v: usize, further: u32) -> Vec<u32> {
     let (first, length) = stretch(times.len(), v);
     let end = first + length;
@@ -60,12 +60,11 @@ fn falling(times: &[u32], code_for: impl FnMut(usize, &[u32]) -> u8) -> Case {
     Case::refused(strip_of_values(&stored(times), code_for), 11, lower)
 }
 
-/// One subtree passes a node above it other than its root's parent. At its time there is a chord,
-/// and so another list.
+/// One subtree passes a node above it other than its root's parent. At its time there is a chord, and so another list.
 pub fn nodes_past_others(random: &mut Random, visit: Visit) {
     for n in (2..=40).chain([63, 64, 100, 300]) {
         let times = movable(n, random);
-        for v in (2..=n).filter(|&v| passed(v).is_some()) {
+        for v in (2..=n).filter(|&v| can_pass(n, v)) {
             visit(Case::packed(moved(&times, v, 0)));
             for further in [1, 1 + random.of_width(10)] {
                 visit(falling(&moved(&times, v, further), chosen));

@@ -6,47 +6,45 @@ use crate::parts::{any_code, chosen, chunks, set_bit};
 use crate::random::Random;
 use crate::reference::strip::{image, PINS};
 use crate::reference::tree::{nodes_of_level, stored, HEIGHT};
-use crate::strips::{most_stored, past_the_greatest_time, refused_at, strip_of_values, with_chunks, with_value, zeros};
+use crate::strips::{most_stored, refused_at, strip_of_values, with_chunks, with_value, zeros};
+
+/// A node of some list has these chunks, of b bits, which make 2^32 or more or do not.
+fn with_number(n: usize, chain: Vec<u32>, b: u32, past: bool, random: &mut Random) -> Case {
+    let (times, v) = (few_lists(n, 1, random).remove(0), 1 + random.below(n));
+    let strip = with_chunks(&times, v, chain, b, random);
+    if past {
+        Case::refused(strip, 9, v)
+    } else {
+        Case::strip(strip)
+    }
+}
 
 /// A node's number is at 2^32 - 1 or past it, also with chunks of zeros on top.
 pub fn values_around_the_greatest(random: &mut Random, visit: Visit) {
     let past = [1 << 32, 1 << 33, 1 << 40, 1 << 63];
     let near = past.iter().flat_map(|&p: &u64| [p - 1, p, p + 1]);
-    let numbers: Vec<u64> = near.chain([u64::MAX, (1 << 32) - 2, 3 << 31]).collect();
-    for n in few_pins() {
-        for b in 1..=8 {
-            let times = few_lists(n, 1, random).remove(0);
-            let v = 1 + random.below(n);
-            for &number in &numbers {
+    for number in near.chain([u64::MAX, (1 << 32) - 2, 3 << 31]) {
+        for n in few_pins() {
+            for b in 1..=8 {
                 for zeros in [0, [1, 40][random.below(2)]] {
                     let chain = [chunks(number, b), vec![0; zeros]].concat();
-                    let strip = with_chunks(&times, v, chain, b, random);
-                    visit(match number {
-                        0x1_0000_0000.. => Case::refused(strip, 9, v),
-                        _ => Case::strip(strip),
-                    });
+                    visit(with_number(n, chain, b, number >> 32 > 0, random));
                 }
             }
         }
     }
 }
 
-/// A node's number has one bit far above its others. Past 64, 256 and 65,536 a shift kept in too
-/// small a number would begin again.
+/// A node's number has one bit far above its others. Past 64, 256 and 65,536 a shift kept in too small a number would
+/// begin again.
 pub fn bits_far_above(random: &mut Random, visit: Visit) {
     for place in (24..=140).chain(250..=300).chain([65_535, 65_540, 65_570]) {
         for b in 1..=8 {
             // The longest chains are read alone, to save time.
             let n = if place < 1000 { [1, 2, 9, 65][random.below(4)] } else { 1 };
-            let times = few_lists(n, 1, random).remove(0);
-            let v = 1 + random.below(n);
             let mut chain = chunks(random.of_width(24).into(), b);
             set_bit(&mut chain, place, b);
-            let strip = with_chunks(&times, v, chain, b, random);
-            visit(match place {
-                32.. => Case::refused(strip, 9, v),
-                _ => Case::strip(strip),
-            });
+            visit(with_number(n, chain, b, place >= 32, random));
         }
     }
 }
@@ -64,8 +62,8 @@ pub fn refused_nodes(random: &mut Random, visit: Visit) {
     }
 }
 
-/// In the longest list, one level has no part or lacks its last byte, or a node of it, at the
-/// level's ends or in its middle, passes an end of the times.
+/// In the longest list, one level has no part or lacks its last byte, or a node of it, at the level's ends or in its
+/// middle, passes an end of the times.
 pub fn refused_at_every_level(_: &mut Random, visit: Visit) {
     let zeros = zeros();
     for level in 1..=HEIGHT {
@@ -80,11 +78,11 @@ pub fn refused_at_every_level(_: &mut Random, visit: Visit) {
         if level > 1 {
             with(0, &|part| _ = part.pop(), 9, first.max(last.saturating_sub(7)));
             with(0, &|part| part[0] |= 0x80, 10, first);
-            // Its first right child right of the root.
-            let index = 1 << (level - 2) | 1;
-            let right = |part: &mut Vec<u8>| part[index / 8] |= 0x80 >> (index % 8);
-            with(0xFF, &right, 10, first + index);
-            visit(Case::refused(past_the_greatest_time(level), 10, last));
+            // A right child: the first right of the root, and the last.
+            for index in [1 << (level - 2) | 1, last - first] {
+                let change = |part: &mut Vec<u8>| part[index / 8] |= 0x80 >> (index % 8);
+                with(0xFF, &change, 10, first + index);
+            }
         }
     }
 }

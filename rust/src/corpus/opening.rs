@@ -5,14 +5,16 @@ use crate::lists::{few_pins, rising};
 use crate::random::Random;
 use crate::reference::strip::{image, PINS};
 use crate::reference::tree::{height, HEIGHT};
-use crate::strips::{example, many_levels, packed, set_length, zeros, A};
+use crate::strips::{example, many_levels, packed, set_length, zeros, A, TIMES_A};
 
-/// The strips that are examples of refusals.
+/// The marked strips, and those that are examples of refusals.
 pub fn examples(_: &mut Random, visit: Visit) {
     for (number, carried) in [(1, 0), (5, 0), (6, 0), (7, 0), (8, 1), (9, 1), (10, 2), (11, 3), (12, 0), (13, 0)] {
         visit(Case::refused(example(number), number, carried));
     }
     visit(Case::refused(Vec::new(), 5, 0));
+    visit(Case::packed(TIMES_A.to_vec()));
+    visit(Case::packed(vec![0]));
 }
 
 /// Strips cut anywhere, and some with bytes added.

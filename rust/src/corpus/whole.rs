@@ -68,8 +68,8 @@ fn smallest_codes(values: &[u32]) -> Vec<u8> {
     (0..=255).filter(smallest).collect()
 }
 
-/// A list whose lowest level stores these values, a power of two of them. They are so small that
-/// the times around them are further apart.
+/// A list whose lowest level stores these values, a power of two of them. They are so small that the times around them
+/// are further apart.
 fn with_lowest_level(values: &[u32]) -> Vec<u32> {
     if let [root] = values {
         return vec![*root];
@@ -89,8 +89,8 @@ fn with_lowest_level(values: &[u32]) -> Vec<u32> {
     times
 }
 
-/// Lists whose lowest level has a tie of the fewest bits, between a fixed and a chunked code or
-/// between two chunked ones. Repeating the values multiplies every size, so that the tie stays.
+/// Lists whose lowest level has a tie of the fewest bits, between a fixed and a chunked code or between two chunked
+/// ones. Repeating the values multiplies every size, so that the tie stays.
 pub fn ties_of_codes(random: &mut Random, visit: Visit) {
     let (mut mixed, mut chunked) = (0, 0);
     for round in 0..8000 {
@@ -135,8 +135,8 @@ pub fn bits_after_the_values(random: &mut Random, visit: Visit) {
     }
 }
 
-/// Chunks of zeros on top of one value of a level in its own code, where this is chunked, and on
-/// top of some values in any chunked code: more of them than a sweep has marks for.
+/// Chunks of zeros on top of one value of a level in its own code, where this is chunked, and on top of some values in
+/// any chunked code: more of them than a sweep has marks for.
 pub fn zeros_on_top(random: &mut Random, visit: Visit) {
     for n in few_pins() {
         for times in few_lists(n, 6, random) {
@@ -159,8 +159,8 @@ pub fn zeros_on_top(random: &mut Random, visit: Visit) {
     }
 }
 
-/// The lowest level is chains of chunks of zeros on top of equal values, or of a one far above
-/// them, or of continuation without end.
+/// The lowest level is chains of chunks of zeros on top of equal values, or of a one far above them, or of continuation
+/// without end.
 pub fn chains_as_long_as_the_part(random: &mut Random, visit: Visit) {
     for b in 1..=8 {
         for count in [1, 2, 4, 8] {

@@ -2,8 +2,8 @@
 
 use std::slice::ChunksExact;
 
-/// The eight bytes before this one, as a number. An open strip has more than eight before its
-/// first part, so that a read up to a part's last byte never needs another case.
+/// The eight bytes before this one, as a number. An open strip has more than eight before its first part, so that a
+/// read up to a part's last byte never needs another case.
 #[inline(always)]
 pub fn word_before(strip: &[u8], byte: usize) -> u64 {
     let bytes = strip[byte - 8..byte].try_into().expect("eight bytes");
@@ -38,16 +38,15 @@ pub fn ones(strip: &[u8], from: usize, to: usize) -> usize {
     ones_of_bytes(strip, first, end) - (before << 8 | after).count_ones() as usize
 }
 
-/// Words are counted side by side, so many of them in a row, which the compiler puts into wide
-/// registers.
+/// Words are counted side by side, so many of them in a row, which the compiler puts into wide registers.
 const LANES: usize = 4;
 const ROW: usize = 8 * LANES;
 const BLOCK: usize = 8 * ROW;
 
 type Lanes = [u64; LANES];
 
-/// The ones of the bytes [first, end). The sums are kept for each byte of a row. None passes 255,
-/// since the bits of a level's nodes fill 16 blocks, and less than another one.
+/// The ones of the bytes [first, end). The sums are kept for each byte of a row. None passes 255, since the bits of a
+/// level's nodes fill 16 blocks, and less than another one.
 fn ones_of_bytes(strip: &[u8], first: usize, end: usize) -> usize {
     let mut blocks = strip[first..end].chunks_exact(BLOCK);
     let (mut sums, mut eights) = ([0; LANES], [0; LANES]);
@@ -70,9 +69,8 @@ fn ones_of_bytes(strip: &[u8], first: usize, end: usize) -> usize {
     sum_of_bytes(sums) + 8 * sum_of_bytes(eights)
 }
 
-/// The ones of each byte in all blocks, and the eights that are to be added to them. The eight
-/// words of a lane are added as numbers of one bit in each place, so that bits are only counted
-/// where a place has come to eight.
+/// The ones of each byte in all blocks, and the eights that are to be added to them. The eight words of a lane are
+/// added as numbers of one bit in each place, so that bits are only counted where a place has come to eight.
 fn sums_of_blocks(blocks: &mut ChunksExact<u8>) -> (Lanes, Lanes) {
     let (mut ones, mut twos, mut fours) = ([0; LANES], [0; LANES], [0; LANES]);
     let mut eights = [0; LANES];

@@ -7,18 +7,8 @@ use super::header::Level;
 
 /// The function for each number of bits in a chunk.
 macro_rules! by_chunk {
-    ($function:ident) => {
-        [
-            $function::<1>,
-            $function::<2>,
-            $function::<3>,
-            $function::<4>,
-            $function::<5>,
-            $function::<6>,
-            $function::<7>,
-            $function::<8>,
-        ]
-    };
+    ($function:ident) => { by_chunk!($function: 1 2 3 4 5 6 7 8) };
+    ($function:ident: $($b:literal)*) => { [$($function::<$b>),*] };
 }
 
 type Encoder = fn(&mut [u32], &mut [u32], Writer);
@@ -89,8 +79,8 @@ pub fn fetch(strip: &[u8], level: Level, count: usize, mut index: usize) -> Opti
 
 // ---- All values ----
 
-/// The level's values, and the bits that they take. None where one passes the part or 32 bits, or
-/// has more chunks than any value needs.
+/// The level's values, and the bits that they take. None where one passes the part or 32 bits, or has more chunks than
+/// any value needs.
 pub fn decode(strip: &[u8], level: Level, values: &mut [u32]) -> Option<usize> {
     DECODERS[level.chunk_bits() - 1](strip, level, values)
 }
@@ -186,9 +176,8 @@ const BLOCK: usize = 32;
 /// Up to so many rests of a block are put in place one by one.
 const FEW: u32 = 8;
 
-/// Puts each chunk of the layer below what follows it, if anything does. These `kept` rests stand
-/// at the front, so that going down from the end nothing is overwritten unread. They have room for
-/// another chunk.
+/// Puts each chunk of the layer below what follows it, if anything does. These `kept` rests stand at the front, so that
+/// going down from the end nothing is overwritten unread. They have room for another chunk.
 fn spread<const B: usize>(strip: &[u8], layer: Layer, mut kept: usize, values: &mut [u32]) {
     let whole = layer.count - layer.count % BLOCK;
     for index in (whole..layer.count).rev() {
@@ -252,8 +241,8 @@ fn spread_eight<const B: usize>(strip: &[u8], layer: Layer, index: usize, kept: 
     left
 }
 
-/// For two continuation bits, how many rests they take, and what to multiply a pair of rests by and
-/// to keep of it: none, the first one for the second value, the first one for the first, both.
+/// For two continuation bits, how many rests they take, and what to multiply a pair of rests by and to keep of it:
+/// none, the first one for the second value, the first one for the first, both.
 const TAKEN: [usize; 4] = [0, 1, 1, 2];
 const FACTORS: [u64; 4] = [0, 1 << 32, 1, 1];
 const KEPT: [u64; 4] = [0, u64::MAX, u32::MAX as u64, u64::MAX];
@@ -279,8 +268,8 @@ fn spread_some<const B: usize>(
     kept
 }
 
-/// Writes the part of these values, which is all of `out`. Leaves others in their place and in
-/// `free`, which has as many entries at least.
+/// Writes the part of these values, which is all of `out`. Leaves others in their place and in `free`, which has as
+/// many entries at least.
 pub fn encode(values: &mut [u32], free: &mut [u32], b: usize, out: &mut [u8]) {
     ENCODERS[b - 1](values, free, Writer::new(out));
 }
@@ -300,8 +289,8 @@ fn encode_chunks<const B: usize>(values: &mut [u32], free: &mut [u32], mut write
 /// Values whose continuation bits make a word.
 const WORD: usize = 64;
 
-/// Writes the layer's continuation bits, puts what is left of the values that go on into `rests`
-/// and gives how many these are.
+/// Writes the layer's continuation bits, puts what is left of the values that go on into `rests` and gives how many
+/// these are.
 fn write_continuation<const B: usize>(values: &[u32], rests: &mut [u32], writer: &mut Writer) -> usize {
     let mut kept = 0;
     let blocks = values.chunks_exact(WORD);
@@ -321,8 +310,8 @@ fn write_continuation<const B: usize>(values: &[u32], rests: &mut [u32], writer:
     kept
 }
 
-/// The continuation bits of a block, the first one lowest: the order in which compilers gather the
-/// results of many comparisons.
+/// The continuation bits of a block, the first one lowest: the order in which compilers gather the results of many
+/// comparisons.
 #[inline(always)]
 fn continuation_bits<const B: usize>(block: &[u32]) -> u64 {
     let bit = |(k, &value): (usize, &u32)| u16::from(value >= 1 << B) << k;

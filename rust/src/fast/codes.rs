@@ -3,8 +3,8 @@
 use super::header::Level;
 use super::{chunked, fixed};
 
-/// How many chunks a value has past its first one, by its highest one bit: for chunks of b bits in
-/// byte b - 1 from below.
+/// How many chunks a value has past its first one, by its highest one bit: for chunks of b bits in byte b - 1 from
+/// below.
 const MORE: [u64; 32] = {
     let mut more = [0; 32];
     let mut highest = 0;
@@ -65,8 +65,8 @@ fn chunks_past_the_first(values: &[u32]) -> [usize; 8] {
     sums
 }
 
-/// Writes the part of these values, which is all of `out`. May leave others in their place and in
-/// `free`, which has as many entries at least.
+/// Writes the part of these values, which is all of `out`. May leave others in their place and in `free`, which has as
+/// many entries at least.
 pub fn encode(values: &mut [u32], free: &mut [u32], code: u8, out: &mut [u8]) {
     match code {
         0..=32 => fixed::encode(values, code, out),
@@ -74,8 +74,8 @@ pub fn encode(values: &mut [u32], free: &mut [u32], code: u8, out: &mut [u8]) {
     }
 }
 
-/// The level's values and the bits that they take. None where any fetch is refused, and where a
-/// value has more chunks than any needs.
+/// The level's values and the bits that they take. None where any fetch is refused, and where a value has more chunks
+/// than any needs.
 pub fn decode(strip: &[u8], level: Level, values: &mut [u32]) -> Option<usize> {
     match level.code {
         0..=32 => fixed::decode(strip, level, values),

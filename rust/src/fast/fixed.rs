@@ -1,5 +1,5 @@
-//! Levels in fixed widths. Eight values of w bits fill w bytes, so that with the width known to the
-//! compiler every shift in a group of eight is a constant.
+//! Levels in fixed widths. Eight values of w bits fill w bytes, so that with the width known to the compiler every
+//! shift in a group of eight is a constant.
 
 use super::bits::bits_before;
 use super::header::Level;

@@ -33,8 +33,8 @@ impl Level {
     }
 }
 
-/// A strip's levels, the root's first: their codes, and where each part begins and the last one
-/// ends. Entries past the height mean nothing.
+/// A strip's levels, the root's first: their codes, and where each part begins and the last one ends. Entries past the
+/// height mean nothing.
 pub struct Header {
     pub shape: Shape,
     codes: [u8; HEIGHT],

@@ -1,14 +1,11 @@
-//! Whole lists, level by level. What lies above a level is itself a list, and each of the level's
-//! nodes falls between two neighbours of it: node j before entry j, at which it hangs where j is
-//! even, and after entry j - 1, at which it hangs where j is odd.
+//! Whole lists, level by level. What lies above a level is itself a list, and each of the level's nodes falls between
+//! two neighbours of it: node j before entry j, at which it hangs where j is even, and after entry j - 1, at which it
+//! hangs where j is odd.
 
 use super::bits::padding;
 use super::codes::{choose, decode};
 use super::header::{Header, Level};
 use super::shape::Shape;
-
-/// Entries that are tested together.
-const STRETCH: usize = 256;
 
 /// What a strip's nodes tell where nothing is amiss with them.
 pub struct Read<'a> {
@@ -20,8 +17,8 @@ pub struct Read<'a> {
     rest: &'a mut [u32],
 }
 
-/// Memory for `read`, with so many entries at its end that are free afterwards. It is asked for in
-/// one piece, since several that come and go together may cost new pages each time.
+/// Memory for `read`, with so many entries at its end that are free afterwards. It is asked for in one piece, since
+/// several that come and go together may cost new pages each time.
 pub fn memory(shape: Shape, free: usize) -> Vec<u32> {
     let (above, next) = lengths_above(shape);
     vec![0; most_nodes(shape) + above + next.max(free)]
@@ -38,8 +35,8 @@ fn lengths_above(shape: Shape) -> (usize, usize) {
     (nodes - 1, (nodes >> 1).saturating_sub(1))
 }
 
-/// Reads a strip whose times do not fall, if no node is refused. Where it must be an image, no
-/// other byte may differ from it either.
+/// Reads a strip whose times do not fall, if no node is refused. Where it must be an image, no other byte may differ
+/// from it either.
 pub fn read<'a>(strip: &[u8], header: &Header, image: bool, memory: &'a mut [u32]) -> Option<Read<'a>> {
     let shape = header.shape;
     let last = shape.height - 1;
@@ -139,21 +136,7 @@ impl<'a> Read<'a> {
     }
 }
 
-/// The first index of a time less than r after the one before, in a list.
-pub fn first_near(times: &[u32], r: u32) -> Option<usize> {
-    let near = |pair: &[u32]| pair[1] - pair[0] < r;
-    // Stretches are tested as a whole, which goes many at a time. They share their ends.
-    let step = |start: &usize| {
-        let stretch = &times[*start..times.len().min(start + STRETCH + 1)];
-        stretch.windows(2).fold(false, |any, pair| any | near(pair))
-    };
-    let start = (0..times.len()).step_by(STRETCH).find(step)?;
-    let before = times[start..].windows(2).position(near);
-    before.map(|before| start + before + 1)
-}
-
-/// What the nodes of the list's lowest level store, and the list above it. This is the inverse of
-/// `merge`.
+/// What the nodes of the list's lowest level store, and the list above it. This is the inverse of `merge`.
 pub fn split(list: &[u32], stored: &mut [u32], above: &mut [u32]) {
     if above.is_empty() {
         stored.copy_from_slice(list);

@@ -1,6 +1,6 @@
-//! The tree's shape in closed form. In the full tree of the same height, of which some of the
-//! lowest leaves may be missing, the node with 2^k - 1 nodes in its left subtree and j nodes before
-//! it on its level has the position (2j + 1) 2^k - 1.
+//! The tree's shape in closed form. In the full tree of the same height, of which some of the lowest leaves may be
+//! missing, the node with 2^k - 1 nodes in its left subtree and j nodes before it on its level has the position (2j +
+//! 1) 2^k - 1.
 
 use crate::reference::strip::PINS;
 

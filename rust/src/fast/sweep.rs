@@ -31,8 +31,8 @@ fn below(times: &[u32], t: u32) -> usize {
     times.partition_point(|&time| time < t)
 }
 
-/// As `positions`, going through times and targets together. A step passes a time or a target, so
-/// that the number of those passed tells the one from the other.
+/// As `positions`, going through times and targets together. A step passes a time or a target, so that the number of
+/// those passed tells the one from the other.
 fn merge(times: &[u32], targets: &[u32], answers: &mut [u32]) {
     let Some(&last) = targets.last() else { return };
     let steps = targets.len() + below(times, last);
@@ -55,8 +55,7 @@ fn merge(times: &[u32], targets: &[u32], answers: &mut [u32]) {
     }
 }
 
-/// One step after so many, among them so many times. What it writes for a target is right when it
-/// passes the target.
+/// One step after so many, among them so many times. What it writes for a target is right when it passes the target.
 #[inline(always)]
 fn pass(times: &[u32], targets: &[u32], answers: &mut [u32], steps: usize, passed: usize) -> usize {
     let target = steps - passed;
@@ -89,8 +88,8 @@ pub fn nodes(shape: Shape, positions: &[u32]) -> usize {
     let place = |position: u32| position + position.saturating_sub(full);
     // From `full` on, paths end one level higher.
     let short = |position: u32| u32::from(position >= full);
-    // Where two places' highest different bit is bit k, their paths part above the lowest k levels.
-    // A float's exponent tells it, also for many at once.
+    // Where two places' highest different bit is bit k, their paths part above the lowest k levels. A float's exponent
+    // tells it, also for many at once.
     let new = positions.windows(2).map(|pair| {
         let different = place(pair[0]) ^ place(pair[1]);
         let levels = (((different | 1) as i32 as f32).to_bits() >> 23) - 127;

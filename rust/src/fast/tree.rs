@@ -74,8 +74,8 @@ impl Lefts {
     }
 }
 
-/// Writes each target's position and gives the nodes opened. There are as many answers as targets,
-/// and these do not fall.
+/// Writes each target's position and gives the nodes opened. There are as many answers as targets, and these do not
+/// fall.
 pub fn sweep(strip: &[u8], header: &Header, targets: &[u32], answers: &mut [u32]) -> Result<usize, Refusal> {
     let shape = header.shape;
     let mut lefts = Lefts::new();
@@ -106,45 +106,4 @@ pub fn sweep(strip: &[u8], header: &Header, targets: &[u32], answers: &mut [u32]
         *answer = position as u32;
     }
     Ok(nodes)
-}
-
-/// The first of so many positions with a time less than r after the one before, or none.
-pub fn first_near(strip: &[u8], header: &Header, r: u32, positions: usize) -> Result<Option<usize>, Refusal> {
-    let mut before = None;
-    let near = walk(strip, header, |i, time| {
-        let near = before.is_some_and(|before| time - before < r);
-        before = Some(time);
-        // None of them ends the walk, too.
-        (near || i + 1 == positions).then_some(near.then_some(i))
-    })?;
-    Ok(near.flatten())
-}
-
-/// Gives each position's time to `visit`, which may end the walk with an answer. Where access would
-/// be refused or the times fall, that is the refusal. Each node is opened once: the first that is
-/// refused lies on the way to the first position that it is needed for.
-pub fn walk<T>(
-    strip: &[u8],
-    header: &Header,
-    mut visit: impl FnMut(usize, u32) -> Option<T>,
-) -> Result<Option<T>, Refusal> {
-    let mut lefts = Lefts::new();
-    let (mut v, mut time, mut before) = (1, 0, 0);
-    for i in 0..header.shape.pins {
-        while v <= header.shape.pins {
-            time = open(strip, header, v, depth(v), time)?;
-            lefts.push(v, time);
-            v *= 2;
-        }
-        let (node, its_time) = lefts.last().expect("a node for each position");
-        lefts.drop_last();
-        if its_time < before {
-            return Err(refusal(11, i));
-        }
-        if let Some(answer) = visit(i, its_time) {
-            return Ok(Some(answer));
-        }
-        (v, time, before) = (2 * node + 1, its_time, its_time);
-    }
-    Ok(None)
 }

@@ -1,5 +1,5 @@
-//! The scope's strip and the calls on it. Slow on purpose: each function follows the scope's
-//! sentences and nothing else.
+//! The scope's strip and the calls on it. Slow on purpose: each function follows the scope's sentences and nothing
+//! else.
 
 use super::tree::{self, height, parts_of_values, stored, Levels, HEIGHT};
 use super::{choose, kind, Kind};
@@ -59,8 +59,7 @@ pub fn image(n: usize, levels: &[(u8, Vec<u8>)]) -> Vec<u8> {
     strip
 }
 
-/// "Pack: order 1, 2, 3, 4. Writes the image at the front". The image, where the output has
-/// this room.
+/// "Pack: order 1, 2, 3, 4. Writes the image at the front". The image, where the output has this room.
 pub fn pack(times: &[u32], room: usize) -> Result<Vec<u8>, Refusal> {
     let n = times.len();
     // 1: "n is 0".
@@ -87,8 +86,8 @@ pub fn pack(times: &[u32], room: usize) -> Result<Vec<u8>, Refusal> {
     Ok(image)
 }
 
-/// "Opening, done first by every reading call, tests in this order: 5 (under 7 bytes), 6, 7,
-/// 1, 5 (under 7 + 5h), 8 from level 1 on, 13."
+/// "Opening, done first by every reading call, tests in this order: 5 (under 7 bytes), 6, 7, 1, 5 (under 7 + 5h), 8
+/// from level 1 on, 13."
 fn open(strip: &[u8]) -> Result<Levels, Refusal> {
     // 5: "strip cut short".
     if strip.len() < 7 {
@@ -150,8 +149,8 @@ pub fn search(strip: &[u8], t: u32) -> Result<(usize, usize), Refusal> {
     Ok(tree::search(strip, &levels, t)?)
 }
 
-/// "Up-to t: strikes at or before t. It gives n and 0 nodes for t = 4,294,967,295, otherwise
-/// search at t + 1 with its count."
+/// "Up-to t: strikes at or before t. It gives n and 0 nodes for t = 4,294,967,295, otherwise search at t + 1 with its
+/// count."
 pub fn up_to(strip: &[u8], t: u32) -> Result<(usize, usize), Refusal> {
     if t == 4_294_967_295 {
         let levels = open(strip)?;
@@ -160,9 +159,9 @@ pub fn up_to(strip: &[u8], t: u32) -> Result<(usize, usize), Refusal> {
     search(strip, t + 1)
 }
 
-/// "Sweep: 15, 16, then [...]. The result carries the nodes opened in all; no targets give 0."
-/// There are this many answers. Adds to `written` those that it writes, also before a refusal:
-/// "a sweep met by 9 or 10 has written the earlier targets' answers".
+/// "Sweep: 15, 16, then [...]. The result carries the nodes opened in all; no targets give 0." There are this many
+/// answers. Adds to `written` those that it writes, also before a refusal: "a sweep met by 9 or 10 has written the
+/// earlier targets' answers".
 pub fn sweep(strip: &[u8], targets: &[u32], answers: usize, written: &mut Vec<usize>) -> Result<usize, Refusal> {
     let levels = open(strip)?;
     // 15: "answers and targets differ in length".
@@ -178,12 +177,12 @@ pub fn sweep(strip: &[u8], targets: &[u32], answers: usize, written: &mut Vec<us
     Ok(tree::sweep(strip, &levels, targets, written)?)
 }
 
-/// Gives the time at a position, or refuses. Calls that may read many positions are told whose
-/// access they go by: `access` above, or a quicker one that does the same.
+/// Gives the time at a position, or refuses. Calls that may read many positions are told whose access they go by:
+/// `access` above, or a quicker one that does the same.
 pub type Access = fn(&[u8], usize) -> Result<(u32, usize), Refusal>;
 
-/// The time that follows these, which are the strip's first ones. Check, unpack and repeat find
-/// "for i from 0, access's refusal, then 11".
+/// The time that follows these, which are the strip's first ones. Check, unpack and repeat find "for i from 0, access's
+/// refusal, then 11".
 fn next(strip: &[u8], times: &[u32], access: Access) -> Result<u32, Refusal> {
     let i = times.len();
     let (time, _) = access(strip, i)?;
@@ -194,8 +193,7 @@ fn next(strip: &[u8], times: &[u32], access: Access) -> Result<u32, Refusal> {
     Ok(time)
 }
 
-/// The list of a strip that check does not refuse: "for i from 0, access's refusal, then 11;
-/// after all, 12."
+/// The list of a strip that check does not refuse: "for i from 0, access's refusal, then 11; after all, 12."
 fn list(strip: &[u8], access: Access) -> Result<Vec<u32>, Refusal> {
     let n = open(strip)?.pins;
     let mut times = Vec::new();
@@ -225,8 +223,8 @@ pub fn unpack(strip: &[u8], room: usize, access: Access) -> Result<Vec<u32>, Ref
     Ok(times)
 }
 
-/// "Repeat r: the first i >= 1 with time i minus time i-1 below r, or none. For each i from 0
-/// it gives access's refusal, then 11, then tests r."
+/// "Repeat r: the first i >= 1 with time i minus time i-1 below r, or none. For each i from 0 it gives access's
+/// refusal, then 11, then tests r."
 pub fn repeat(strip: &[u8], r: u32, access: Access) -> Result<Option<usize>, Refusal> {
     let n = open(strip)?.pins;
     let mut times = Vec::new();
@@ -239,12 +237,11 @@ pub fn repeat(strip: &[u8], r: u32, access: Access) -> Result<Option<usize>, Ref
     Ok(None)
 }
 
-/// What a step of the pin walker says: the time with the nodes opened, or none where it says end,
-/// or the refusal.
+/// What a step of the pin walker says: the time with the nodes opened, or none where it says end, or the refusal.
 pub type Said = Result<Option<(u32, usize)>, Refusal>;
 
-/// "Pin walker [...]: it carries the strip it walks and the next position, 0 at the start." What a
-/// step says, and the next position after it. "End and refusals do not move it."
+/// "Pin walker [...]: it carries the strip it walks and the next position, 0 at the start." What a step says, and the
+/// next position after it. "End and refusals do not move it."
 pub fn step(strip: &[u8], next: usize, access: Access) -> (Said, usize) {
     // "A step opens".
     let levels = match open(strip) {

@@ -1,5 +1,4 @@
-//! The scope's tree, node by node. Slow on purpose: each function follows the scope's
-//! sentences and nothing else.
+//! The scope's tree, node by node. Slow on purpose: each function follows the scope's sentences and nothing else.
 
 use std::ops::RangeInclusive;
 
@@ -8,8 +7,7 @@ use super::{encode, fetch};
 /// "The greatest height, 16".
 pub const HEIGHT: usize = 16;
 
-/// "The height h is the least number with 2^h - 1 >= n." The numbers are wide, so that no
-/// count makes them overflow.
+/// "The height h is the least number with 2^h - 1 >= n." The numbers are wide, so that no count makes them overflow.
 pub fn height(n: usize) -> usize {
     let mut h = 0;
     while (1u128 << h) - 1 < n as u128 {
@@ -18,9 +16,8 @@ pub fn height(n: usize) -> usize {
     h
 }
 
-/// "The root's place in a list of n, counted from 1: 1 for n = 1; otherwise
-/// n - 2^(h-2) + 1 when n < 3 * 2^(h-2), else 2^(h-1)." An empty list has no root, which
-/// gives 0.
+/// "The root's place in a list of n, counted from 1: 1 for n = 1; otherwise n - 2^(h-2) + 1 when n < 3 * 2^(h-2), else
+/// 2^(h-1)." An empty list has no root, which gives 0.
 pub fn root_place(n: usize) -> usize {
     let h = height(n);
     match n {
@@ -36,8 +33,8 @@ pub fn is_left(v: usize) -> bool {
     v == 2 * (v / 2)
 }
 
-/// Where the list of node v's subtree lies in the whole list: its first position and its
-/// length. "What precedes it is the left subtree's list, what follows the right one's."
+/// Where the list of node v's subtree lies in the whole list: its first position and its length. "What precedes it is
+/// the left subtree's list, what follows the right one's."
 pub fn stretch(n: usize, v: usize) -> (usize, usize) {
     if v == 1 {
         return (0, n);
@@ -67,8 +64,8 @@ pub fn ranks(n: usize) -> Vec<usize> {
     ranks
 }
 
-/// The ranks in the subtree of node v, whose list has this first position and length.
-/// "Each subtree's root is found the same way on its shorter list."
+/// The ranks in the subtree of node v, whose list has this first position and length. "Each subtree's root is found the
+/// same way on its shorter list."
 fn rank_subtree(ranks: &mut [usize], v: usize, first: usize, length: usize) {
     if length == 0 {
         return;
@@ -97,8 +94,8 @@ fn node_in_subtree(v: usize, length: usize, i: usize) -> usize {
     }
 }
 
-/// The stored values in node order: "The root stores its time. A left child stores parent
-/// minus child, a right child child minus parent." The times do not fall.
+/// The stored values in node order: "The root stores its time. A left child stores parent minus child, a right child
+/// child minus parent." The times do not fall.
 pub fn stored(times: &[u32]) -> Vec<u32> {
     let ranks = ranks(times.len());
     let time = |v: usize| times[ranks[v - 1]];
@@ -110,8 +107,8 @@ pub fn stored(times: &[u32]) -> Vec<u32> {
     (1..=times.len()).map(value).collect()
 }
 
-/// Where a tree lies in a slice `s` of bytes: level L, from 1, has code `codes[L - 1]`, and
-/// its part is `&s[ends[L - 1]..ends[L]]`. Entries past the tree's height mean nothing.
+/// Where a tree lies in a slice `s` of bytes: level L, from 1, has code `codes[L - 1]`, and its part is `&s[ends[L -
+/// 1]..ends[L]]`. Entries past the tree's height mean nothing.
 #[derive(Debug, Clone)]
 pub struct Levels {
     pub pins: usize,
@@ -130,8 +127,8 @@ pub fn values_of_level(values: &[u32], level: usize) -> &[u32] {
     &values[nodes.start() - 1..*nodes.end()]
 }
 
-/// Each level's code and part, for nodes that store these values, whether or not a list
-/// makes them. `code_for` is given a level and its values and names a code that holds them.
+/// Each level's code and part, for nodes that store these values, whether or not a list makes them. `code_for` is given
+/// a level and its values and names a code that holds them.
 pub fn parts_of_values(values: &[u32], mut code_for: impl FnMut(usize, &[u32]) -> u8) -> Vec<(u8, Vec<u8>)> {
     let part = |level| {
         let values = values_of_level(values, level);
@@ -174,15 +171,13 @@ fn open(s: &[u8], levels: &Levels, v: usize) -> Result<(u32, usize), Refusal> {
     Ok((time, nodes + 1))
 }
 
-/// "Fetches from the root to rank i. Gives time and nodes opened." The position is below
-/// the pin count.
+/// "Fetches from the root to rank i. Gives time and nodes opened." The position is below the pin count.
 pub fn access(s: &[u8], levels: &Levels, i: usize) -> Result<(u32, usize), Refusal> {
     open(s, levels, node_of_rank(levels.pins, i))
 }
 
-/// "From the root, left where the node's time >= t, else right, until no child. The
-/// position is the rank of the last node left by its left side, or n. Gives position and
-/// nodes opened."
+/// "From the root, left where the node's time >= t, else right, until no child. The position is the rank of the last
+/// node left by its left side, or n. Gives position and nodes opened."
 pub fn search(s: &[u8], levels: &Levels, t: u32) -> Result<(usize, usize), Refusal> {
     let n = levels.pins;
     let (mut position, mut nodes) = (n, 0);
@@ -201,11 +196,10 @@ pub fn search(s: &[u8], levels: &Levels, t: u32) -> Result<(usize, usize), Refus
     Ok((position, nodes))
 }
 
-/// "The first target as search does, remembering the nodes left by their left side with their
-/// times. Each later target drops remembered nodes from the deepest up while their time is below
-/// it. If any dropped, it goes on from the right child of the last dropped. The position is the
-/// rank of the deepest remembered node, or n." Adds the positions to `written`, and gives "the
-/// nodes opened in all".
+/// "The first target as search does, remembering the nodes left by their left side with their times. Each later target
+/// drops remembered nodes from the deepest up while their time is below it. If any dropped, it goes on from the right
+/// child of the last dropped. The position is the rank of the deepest remembered node, or n." Adds the positions to
+/// `written`, and gives "the nodes opened in all".
 pub fn sweep(s: &[u8], levels: &Levels, targets: &[u32], written: &mut Vec<usize>) -> Result<usize, Refusal> {
     let n = levels.pins;
     // The deepest one last.
