@@ -5,7 +5,7 @@ use std::thread;
 use gemcotton::{height, rank, root_place, MAX_BYTES};
 use gemcotton_tests::calls::{Input, CALLS};
 use gemcotton_tests::corpus::Case;
-use gemcotton_tests::lists::{lists, sorted};
+use gemcotton_tests::lists::{few_lists, sorted};
 use gemcotton_tests::parts::{any_code, chosen};
 use gemcotton_tests::random::Random;
 use gemcotton_tests::reference::strip::PINS;
@@ -26,7 +26,7 @@ fn on_stack(kibibytes: usize, calls: impl FnOnce() + Send) {
 /// Strips of n pins that check accepts, or refuses with 9, 10, 11 and 12.
 fn cases(n: usize, random: &mut Random) -> Vec<Case> {
     let mut cases = Vec::new();
-    for times in lists(n, random) {
+    for times in few_lists(n, if n == PINS { 4 } else { usize::MAX }, random) {
         cases.push(Case::reading(wasteful(&times, 1, random), times.clone()));
         let v = 1 + random.below(n);
         for (strip, number) in refused_at(&times, v, random) {
@@ -49,7 +49,7 @@ fn inputs(case: &Case, n: usize, random: &mut Random) -> Vec<Input> {
     let targets = sorted((0..n).map(|_| random.skewed()).collect());
     let list = case.list.clone().unwrap_or(targets);
     let input = |(number, room)| Input { number, list: list.clone(), room };
-    [(0, n), (n / 2, n), (n - 1, n), (n, n), (0, MAX_BYTES)].map(input).to_vec()
+    [(0, n), (n / 2, n), (n - 1, n), (n, n), (n, MAX_BYTES)].map(input).to_vec()
 }
 
 #[test]

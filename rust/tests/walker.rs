@@ -12,7 +12,6 @@ use gemcotton_tests::strips::{packed, A, B};
 #[test]
 fn position_set_midway() {
     let mut random = Random(5);
-    let (mut forwards, mut backwards) = (0, 0);
     for n in few_pins().chain([1000, 6144, PINS]) {
         for times in few_lists(n, 3, &mut random) {
             let strip = packed(&times);
@@ -21,8 +20,6 @@ fn position_set_midway() {
             for _ in 0..100 {
                 let past = [n, n + 1, usize::MAX, 1 << 32][random.below(4)];
                 let next = [random.below(n), random.below(n), n - 1, past][random.below(4)];
-                forwards += usize::from(next > walker.next);
-                backwards += usize::from(next < walker.next);
                 walker.next = next;
                 for _ in 0..=random.below(4) {
                     let at = walker.next;
@@ -33,7 +30,6 @@ fn position_set_midway() {
             }
         }
     }
-    assert!(forwards >= 1000 && backwards >= 1000);
 }
 
 /// A step opens the strip that the walker then carries.

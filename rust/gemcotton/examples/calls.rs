@@ -7,7 +7,7 @@
 //! ```
 
 use gemcotton::{access, check, height, pack, rank, repeat, search, sweep, unpack, up_to};
-use gemcotton::{Refusal, Walker, MAX_BYTES};
+use gemcotton::{Accessed, Refusal, Searched, UpTo, Walker, MAX_BYTES};
 
 /// The strike times, in milliseconds. Two strikes at 250 are a chord.
 const LIST: [u32; 5] = [100, 250, 250, 400, 1000];
@@ -30,16 +30,13 @@ fn main() -> Result<(), Refusal> {
     println!("accepted, with {pins} pins");
 
     // By position.
-    let found = access(strip, 3)?;
-    let (time, nodes) = (found.time, found.nodes);
+    let Accessed { time, nodes } = access(strip, 3)?;
     println!("position 3: {time} ms (nodes opened: {nodes})");
 
     // By time.
-    let found = search(strip, 251)?;
-    let (position, nodes) = (found.position, found.nodes);
+    let Searched { position, nodes } = search(strip, 251)?;
     println!("first at or after 251 ms: position {position} (nodes opened: {nodes})");
-    let found = up_to(strip, 250)?;
-    let (strikes, nodes) = (found.strikes, found.nodes);
+    let UpTo { strikes, nodes } = up_to(strip, 250)?;
     println!("at or before 250 ms: {strikes} strikes (nodes opened: {nodes})");
 
     // By many times in one walk. The pin count is the answer where there is no strike at or after the target.

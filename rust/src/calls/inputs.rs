@@ -21,23 +21,15 @@ fn rooms(list: &[u32], rooms: impl IntoIterator<Item = usize>) -> Vec<Input> {
 
 // ---- Lists and their room ----
 
-/// Where the list packs, room for too little, just enough and more.
+/// Where the list packs, room for too little, just enough and more; less often where it is long. A strip in other codes
+/// is no other list.
 pub fn pack(case: &Case, random: &mut Random) -> Vec<Input> {
-    let Some(list) = &case.list else {
-        return Vec::new();
-    };
-    let ample = 7 + 5 * height(list.len()) + 4 * list.len();
-    if !case.reads() {
-        return rooms(list, [0, random.below(60), ample]);
-    }
-    // A strip in other codes is no other list, and a long list is packed but a few times.
-    let length = case.image.len();
+    let list = case.list.as_deref().unwrap_or_default();
+    let (length, ample) = (case.image.len(), 7 + 5 * height(list.len()) + 4 * list.len());
     match list.len() {
-        _ if case.refused.is_some() => Vec::new(),
-        0..=300 => {
-            let short = random.below(length);
-            rooms(list, [0, 1, short, length - 1, length, length + 1, ample])
-        }
+        _ if case.list.is_none() || case.reads() && case.refused.is_some() => Vec::new(),
+        _ if !case.reads() => rooms(list, [0, random.below(60), ample]),
+        0..=300 => rooms(list, [0, 1, random.below(length), length - 1, length, length + 1, ample]),
         _ => rooms(list, [[0, length - 1][random.below(2)], length]),
     }
 }
@@ -93,20 +85,9 @@ fn positions(case: &Case, random: &mut Random) -> Vec<usize> {
     positions
 }
 
-/// Positions at n or beyond it.
+/// Positions at n or beyond it. Kept in 16 or 32 bits, the last would be below n.
 fn beyond(n: usize) -> [usize; 9] {
-    [
-        n,
-        n + 1,
-        PINS,
-        usize::MAX - 1,
-        usize::MAX,
-        // Kept in 16 or 32 bits, these would be below n.
-        1 << 16,
-        (1 << 16) + n / 2,
-        1 << 32,
-        (1 << 32) + n / 2,
-    ]
+    [n, n + 1, PINS, usize::MAX - 1, usize::MAX, 1 << 16, (1 << 16) + n / 2, 1 << 32, (1 << 32) + n / 2]
 }
 
 pub fn access(case: &Case, random: &mut Random) -> Vec<Input> {

@@ -48,7 +48,12 @@ pub fn wrapping_lengths(random: &mut Random, visit: Visit) {
             visit(Case::refused(strip, 13, 0));
         };
         for round in 0..40 {
-            let mut lengths: Vec<u32> = (1..h).map(|_| wrapping_length(round, random)).collect();
+            // Random, or just below 2^32, a half or a quarter of it.
+            let length = |_| match round % 2 {
+                0 => random.of_width(32),
+                _ => [u32::MAX, u32::MAX >> 1, u32::MAX >> 2][random.below(3)] - random.of_width(3),
+            };
+            let mut lengths: Vec<u32> = (1..h).map(length).collect();
             let sum = lengths.iter().copied().fold(0, u32::wrapping_add);
             lengths.push(parts.wrapping_sub(sum));
             with(&|level| lengths[level - 1]);
@@ -56,15 +61,6 @@ pub fn wrapping_lengths(random: &mut Random, visit: Visit) {
         with(&|_| u32::MAX);
         // As if level 1 had -1 bytes.
         with(&|level| [0, u32::MAX, parts + 1].get(level).map_or(0, |&length| length));
-    }
-}
-
-/// A random length, or in every other round one just below 2^32, a half or a quarter of it.
-fn wrapping_length(round: usize, random: &mut Random) -> u32 {
-    let near = [0, 1 << 30, 1 << 31][random.below(3)];
-    match round % 2 {
-        0 => random.of_width(32),
-        _ => u32::wrapping_sub(near, 1 + random.of_width(3)),
     }
 }
 

@@ -7,7 +7,7 @@ use crate::random::Random;
 use crate::reference::strip::{image, PINS};
 use crate::reference::tree::{height, parts_of_values, stored, values_of_level};
 use crate::reference::{choose, encode, size};
-use crate::strips::{strip_of_values, wasteful};
+use crate::strips::{strip_of_values, wasteful, Level};
 
 pub fn short_lists(random: &mut Random, visit: Visit) {
     for n in 1..=300 {
@@ -40,25 +40,60 @@ pub fn other_codes(random: &mut Random, visit: Visit) {
     }
 }
 
-/// One level in every code that holds its values.
-pub fn every_code_of_a_level(random: &mut Random, visit: Visit) {
-    for n in few_pins().filter(|&n| n < 100) {
-        for times in few_lists(n, 3, random) {
+/// Strips of lists that have other bytes for one level, given its values and what pack writes for it.
+fn other_levels(
+    lists: usize,
+    random: &mut Random,
+    visit: Visit,
+    others: fn(&[u32], &Level, &mut Random) -> Vec<Level>,
+) {
+    for n in few_pins() {
+        for times in few_lists(n, lists, random) {
             let values = stored(&times);
             let levels = parts_of_values(&values, chosen);
-            for level in 1..=levels.len() {
-                let values = values_of_level(&values, level);
-                for code in 0..=255 {
-                    let Some(part) = encode(values, code) else {
-                        continue;
-                    };
+            for (i, level) in levels.iter().enumerate() {
+                for other in others(values_of_level(&values, i + 1), level, random) {
                     let mut levels = levels.clone();
-                    levels[level - 1] = (code, part);
+                    levels[i] = other;
                     visit(Case::reading(image(n, &levels), times.clone()));
                 }
             }
         }
     }
+}
+
+/// One level in every code that holds its values.
+pub fn every_code_of_a_level(random: &mut Random, visit: Visit) {
+    other_levels(3, random, visit, |values, _, _| {
+        (0..=255).filter_map(|code| Some((code, encode(values, code)?))).collect()
+    });
+}
+
+/// Each padding bit, and bytes more.
+pub fn bits_after_the_values(random: &mut Random, visit: Visit) {
+    other_levels(3, random, visit, |values, (code, part), random| {
+        let mut parts = vec![[&part[..], &[0]].concat(), [&part[..], &random.bytes(2)].concat()];
+        for bit in 0..part.len() as u64 * 8 - choose(values).1 {
+            let mut part = part.clone();
+            *part.last_mut().expect("a byte") |= 1 << bit;
+            parts.push(part);
+        }
+        parts.into_iter().map(|part| (*code, part)).collect()
+    });
+}
+
+/// Chunks of zeros on top of one value of a level in its own code, where this is chunked, and on top of some values in
+/// any chunked code: more of them than a sweep has marks for.
+pub fn zeros_on_top(random: &mut Random, visit: Visit) {
+    other_levels(6, random, visit, |values, (code, _), random| {
+        let any = 1 + random.of_width(3);
+        let own = code.checked_sub(64).map_or(any, u32::from);
+        let mut one = chains(values, own);
+        let index = random.below(one.len());
+        one[index].extend(vec![0; [1, 1, 2, 40][random.below(4)]]);
+        let some = with_zeros(values, any, random);
+        [(own, one), (any, some)].map(|(b, chains)| (64 + b as u8, part_of_chunks(&chains, b))).to_vec()
+    });
 }
 
 /// The codes that hold the values in the fewest bits.
@@ -109,54 +144,6 @@ pub fn ties_of_codes(random: &mut Random, visit: Visit) {
         }
     }
     assert!(mixed > 200 && chunked > 200, "{mixed} and {chunked} ties");
-}
-
-/// Each padding bit, and bytes more.
-pub fn bits_after_the_values(random: &mut Random, visit: Visit) {
-    for n in few_pins() {
-        for times in few_lists(n, 3, random) {
-            let values = stored(&times);
-            let levels = parts_of_values(&values, chosen);
-            for level in 1..=levels.len() {
-                let mut with = |change: &dyn Fn(&mut Vec<u8>)| {
-                    let mut levels = levels.clone();
-                    change(&mut levels[level - 1].1);
-                    visit(Case::reading(image(n, &levels), times.clone()));
-                };
-                let size = choose(values_of_level(&values, level)).1;
-                for bit in 0..levels[level - 1].1.len() as u64 * 8 - size {
-                    with(&|part| *part.last_mut().expect("a byte") |= 1 << bit);
-                }
-                let more = random.bytes(2);
-                with(&|part| part.push(0));
-                with(&|part| part.extend(&more));
-            }
-        }
-    }
-}
-
-/// Chunks of zeros on top of one value of a level in its own code, where this is chunked, and on top of some values in
-/// any chunked code: more of them than a sweep has marks for.
-pub fn zeros_on_top(random: &mut Random, visit: Visit) {
-    for n in few_pins() {
-        for times in few_lists(n, 6, random) {
-            let values = stored(&times);
-            let levels = parts_of_values(&values, chosen);
-            for level in 1..=levels.len() {
-                let here = values_of_level(&values, level);
-                let any = 1 + random.of_width(3);
-                let own = levels[level - 1].0.checked_sub(64).map_or(any, u32::from);
-                let mut one = chains(here, own);
-                let index = random.below(one.len());
-                one[index].extend(vec![0; [1, 1, 2, 40][random.below(4)]]);
-                for (b, chains) in [(own, one), (any, with_zeros(here, any, random))] {
-                    let mut levels = levels.clone();
-                    levels[level - 1] = (64 + b as u8, part_of_chunks(&chains, b));
-                    visit(Case::reading(image(n, &levels), times.clone()));
-                }
-            }
-        }
-    }
 }
 
 /// The lowest level is chains of chunks of zeros on top of equal values, or of a one far above them, or of continuation

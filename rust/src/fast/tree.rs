@@ -47,16 +47,13 @@ pub fn search(strip: &[u8], header: &Header, t: u32) -> Result<(usize, usize), R
 }
 
 /// Nodes left by their left side, with their times, the deepest last.
+#[derive(Default)]
 struct Lefts {
     nodes: [(usize, u32); HEIGHT],
     held: usize,
 }
 
 impl Lefts {
-    fn new() -> Self {
-        Lefts { nodes: [(0, 0); HEIGHT], held: 0 }
-    }
-
     #[inline(always)]
     fn push(&mut self, v: usize, time: u32) {
         self.nodes[self.held] = (v, time);
@@ -78,7 +75,7 @@ impl Lefts {
 /// fall.
 pub fn sweep(strip: &[u8], header: &Header, targets: &[u32], answers: &mut [u32]) -> Result<usize, Refusal> {
     let shape = header.shape;
-    let mut lefts = Lefts::new();
+    let mut lefts = Lefts::default();
     let (mut v, mut time, mut nodes) = (1, 0, 0);
     let mut position = shape.pins;
     for (&t, answer) in targets.iter().zip(answers) {

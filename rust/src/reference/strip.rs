@@ -1,7 +1,7 @@
 //! The scope's strip and the calls on it. Slow on purpose: each function follows the scope's sentences and nothing
 //! else.
 
-use super::tree::{self, height, parts_of_values, stored, Levels, HEIGHT};
+use super::tree::{self, height, parts_of_values, stored, Levels};
 use super::{choose, kind, Kind};
 
 /// "The greatest pin count, 65,535".
@@ -17,16 +17,6 @@ pub struct Refusal {
 /// The result of a call that is refused so.
 pub fn refused<T>(number: usize, carried: usize) -> Result<T, Refusal> {
     Err(Refusal { number, carried })
-}
-
-impl From<tree::Refusal> for Refusal {
-    fn from(refusal: tree::Refusal) -> Refusal {
-        let (number, carried) = match refusal {
-            tree::Refusal::Fetch(node) => (9, node),
-            tree::Refusal::Time(node) => (10, node),
-        };
-        Refusal { number, carried }
-    }
 }
 
 /// "Multi-byte numbers have the high byte first."
@@ -88,7 +78,7 @@ pub fn pack(times: &[u32], room: usize) -> Result<Vec<u8>, Refusal> {
 
 /// "Opening, done first by every reading call, tests in this order: 5 (under 7 bytes), 6, 7, 1, 5 (under 7 + 5h), 8
 /// from level 1 on, 13."
-fn open(strip: &[u8]) -> Result<Levels, Refusal> {
+fn open(strip: &[u8]) -> Result<Levels<'_>, Refusal> {
     // 5: "strip cut short".
     if strip.len() < 7 {
         return refused(5, 0);
@@ -124,13 +114,13 @@ fn open(strip: &[u8]) -> Result<Levels, Refusal> {
     if strip.len() as u128 != (7 + 5 * h) as u128 + parts {
         return refused(13, 0);
     }
-    let mut levels = Levels { pins: n, codes: [255; HEIGHT], ends: [0; HEIGHT + 1] };
-    levels.ends[0] = 7 + 5 * h;
+    let (mut parts, mut start) = (Vec::new(), 7 + 5 * h);
     for level in 1..=h {
-        levels.codes[level - 1] = strip[entry(level)];
-        levels.ends[level] = levels.ends[level - 1] + length(level);
+        let end = start + length(level);
+        parts.push((strip[entry(level)], &strip[start..end]));
+        start = end;
     }
-    Ok(levels)
+    Ok(Levels { pins: n, parts })
 }
 
 /// "Access i: 14, then fetches from the root to rank i. Gives time and nodes opened."
@@ -140,21 +130,19 @@ pub fn access(strip: &[u8], i: usize) -> Result<(u32, usize), Refusal> {
     if i >= levels.pins {
         return refused(14, 0);
     }
-    Ok(tree::access(strip, &levels, i)?)
+    tree::access(&levels, i)
 }
 
 /// "Search t [...] Gives position and nodes opened."
 pub fn search(strip: &[u8], t: u32) -> Result<(usize, usize), Refusal> {
-    let levels = open(strip)?;
-    Ok(tree::search(strip, &levels, t)?)
+    tree::search(&open(strip)?, t)
 }
 
 /// "Up-to t: strikes at or before t. It gives n and 0 nodes for t = 4,294,967,295, otherwise search at t + 1 with its
 /// count."
 pub fn up_to(strip: &[u8], t: u32) -> Result<(usize, usize), Refusal> {
     if t == 4_294_967_295 {
-        let levels = open(strip)?;
-        return Ok((levels.pins, 0));
+        return Ok((open(strip)?.pins, 0));
     }
     search(strip, t + 1)
 }
@@ -174,7 +162,7 @@ pub fn sweep(strip: &[u8], targets: &[u32], answers: usize, written: &mut Vec<us
             return refused(16, index);
         }
     }
-    Ok(tree::sweep(strip, &levels, targets, written)?)
+    tree::sweep(&levels, targets, written)
 }
 
 /// Gives the time at a position, or refuses. Calls that may read many positions are told whose access they go by:

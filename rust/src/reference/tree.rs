@@ -2,6 +2,7 @@
 
 use std::ops::RangeInclusive;
 
+use super::strip::{refused, Refusal};
 use super::{encode, fetch};
 
 /// "The greatest height, 16".
@@ -76,12 +77,6 @@ fn rank_subtree(ranks: &mut [usize], v: usize, first: usize, length: usize) {
     rank_subtree(ranks, 2 * v + 1, first + place, length - place);
 }
 
-/// The node with rank i, which is below n.
-fn node_of_rank(n: usize, i: usize) -> usize {
-    assert!(i < n);
-    node_in_subtree(1, n, i)
-}
-
 /// The node at position i of the list of node v's subtree, which has this length.
 fn node_in_subtree(v: usize, length: usize, i: usize) -> usize {
     let place = root_place(length);
@@ -107,13 +102,10 @@ pub fn stored(times: &[u32]) -> Vec<u32> {
     (1..=times.len()).map(value).collect()
 }
 
-/// Where a tree lies in a slice `s` of bytes: level L, from 1, has code `codes[L - 1]`, and its part is `&s[ends[L -
-/// 1]..ends[L]]`. Entries past the tree's height mean nothing.
-#[derive(Debug, Clone)]
-pub struct Levels {
+/// A tree in bytes: its pin count, and each level's code and part.
+pub struct Levels<'a> {
     pub pins: usize,
-    pub codes: [u8; HEIGHT],
-    pub ends: [usize; HEIGHT + 1],
+    pub parts: Vec<(u8, &'a [u8])>,
 }
 
 /// "Level L, from 1, holds nodes 2^(L-1) to min(n, 2^L - 1)."
@@ -139,52 +131,44 @@ pub fn parts_of_values(values: &[u32], mut code_for: impl FnMut(usize, &[u32]) -
     (1..=height(values.len())).map(part).collect()
 }
 
-/// Refusals 9 and 10, with the node they carry.
-#[derive(Debug, PartialEq, Clone, Copy)]
-pub enum Refusal {
-    /// "Fetch passes its part, or its value is 2^32 or more".
-    Fetch(usize),
-    /// "Time below 0 or above 4,294,967,295".
-    Time(usize),
-}
-
 /// What node v stores. "A fetch is handed its level's part alone".
-fn fetch_node(s: &[u8], levels: &Levels, v: usize) -> Result<u32, Refusal> {
+fn fetch_node(levels: &Levels, v: usize) -> Result<u32, Refusal> {
     let level = (1..).find(|&level| nodes_of_level(levels.pins, level).contains(&v)).expect("every node has a level");
     let nodes = nodes_of_level(levels.pins, level);
     let index = v - nodes.start();
-    let part = &s[levels.ends[level - 1]..levels.ends[level]];
-    let value = fetch(part, levels.codes[level - 1], nodes.count(), index);
-    value.ok_or(Refusal::Fetch(v))
+    let (code, part) = levels.parts[level - 1];
+    // 9: "fetch passes its part, or its value is 2^32 or more".
+    fetch(part, code, nodes.count(), index).map_or(refused(9, v), Ok)
 }
 
 /// The time of node v, and the nodes opened "from the root" to it.
-fn open(s: &[u8], levels: &Levels, v: usize) -> Result<(u32, usize), Refusal> {
+fn open(levels: &Levels, v: usize) -> Result<(u32, usize), Refusal> {
     if v == 1 {
         // "The root stores its time."
-        return Ok((fetch_node(s, levels, v)?, 1));
+        return Ok((fetch_node(levels, v)?, 1));
     }
-    let (parent, nodes) = open(s, levels, v / 2)?;
-    let value = fetch_node(s, levels, v)?;
+    let (parent, nodes) = open(levels, v / 2)?;
+    let value = fetch_node(levels, v)?;
     let time = if is_left(v) { i64::from(parent) - i64::from(value) } else { i64::from(parent) + i64::from(value) };
-    let time = u32::try_from(time).map_err(|_| Refusal::Time(v))?;
+    // 10: "time below 0 or above 4,294,967,295".
+    let time = u32::try_from(time).or(refused(10, v))?;
     Ok((time, nodes + 1))
 }
 
 /// "Fetches from the root to rank i. Gives time and nodes opened." The position is below the pin count.
-pub fn access(s: &[u8], levels: &Levels, i: usize) -> Result<(u32, usize), Refusal> {
-    open(s, levels, node_of_rank(levels.pins, i))
+pub fn access(levels: &Levels, i: usize) -> Result<(u32, usize), Refusal> {
+    open(levels, node_in_subtree(1, levels.pins, i))
 }
 
 /// "From the root, left where the node's time >= t, else right, until no child. The position is the rank of the last
 /// node left by its left side, or n. Gives position and nodes opened."
-pub fn search(s: &[u8], levels: &Levels, t: u32) -> Result<(usize, usize), Refusal> {
+pub fn search(levels: &Levels, t: u32) -> Result<(usize, usize), Refusal> {
     let n = levels.pins;
     let (mut position, mut nodes) = (n, 0);
     let mut v = 1;
     while v <= n {
         // All nodes above v were opened before, so this is one more.
-        let (time, _) = open(s, levels, v)?;
+        let (time, _) = open(levels, v)?;
         nodes += 1;
         if time >= t {
             position = rank(n, v).expect("v is a node");
@@ -200,7 +184,7 @@ pub fn search(s: &[u8], levels: &Levels, t: u32) -> Result<(usize, usize), Refus
 /// drops remembered nodes from the deepest up while their time is below it. If any dropped, it goes on from the right
 /// child of the last dropped. The position is the rank of the deepest remembered node, or n." Adds the positions to
 /// `written`, and gives "the nodes opened in all".
-pub fn sweep(s: &[u8], levels: &Levels, targets: &[u32], written: &mut Vec<usize>) -> Result<usize, Refusal> {
+pub fn sweep(levels: &Levels, targets: &[u32], written: &mut Vec<usize>) -> Result<usize, Refusal> {
     let n = levels.pins;
     // The deepest one last.
     let mut remembered: Vec<(usize, u32)> = Vec::new();
@@ -215,7 +199,7 @@ pub fn sweep(s: &[u8], levels: &Levels, targets: &[u32], written: &mut Vec<usize
             None => (index == 0).then_some(1),
         };
         while let Some(v) = next.filter(|&v| v <= n) {
-            let (time, _) = open(s, levels, v)?;
+            let (time, _) = open(levels, v)?;
             nodes += 1;
             if time >= t {
                 remembered.push((v, time));
