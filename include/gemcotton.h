@@ -13,7 +13,7 @@
  * The bytes of the stack that a call takes, rounded up, measured on x86-64 and not proved:
  *
  *                                  up to 1,023 pins     more
- *   height, root place, rank                  1,000    1,000
+ *   height, root place, rank                    100      100
  *   access, search, up-to, step               1,000    1,000
  *   sweep                                    26,000   26,000
  *   pack                                      9,000  396,000
@@ -55,8 +55,8 @@ enum gemcotton_refusal {
   GEMCOTTON_TARGETS_FALL = 16 /* the targets fall: the first index with a lower target than the one before */
 };
 
-/* The sentence of a refusal, which is a format for printf and its like with at most one %zu, for what is carried. So this
- * prints it: printf(gemcotton_sentence(answer.refusal), answer.value). Any other number than those above has one too. */
+/* The sentence of a refusal: a format for printf and its like with at most one %zu, which is for what is carried. So this
+ * prints it: printf(gemcotton_sentence(answer.refusal), answer.value). There is one for any number, also for 0. */
 static inline const char *gemcotton_sentence(size_t refusal) {
   switch (refusal) {
     case GEMCOTTON_EMPTY: return "there are no pins";
@@ -75,7 +75,8 @@ static inline const char *gemcotton_sentence(size_t refusal) {
     case GEMCOTTON_POSITION: return "the position is not below the pin count";
     case GEMCOTTON_ANSWERS: return "there are not as many answers as targets";
     case GEMCOTTON_TARGETS_FALL: return "the targets fall at index %zu";
-    default: return "there is no refusal";
+    case GEMCOTTON_NONE: return "there is no refusal";
+    default: return "there is a refusal of another number";
   }
 }
 

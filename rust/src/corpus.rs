@@ -1,5 +1,5 @@
 //! The corpus: lists and strips of all sorts, whole and damaged, that every call of the table is run on. A new kind of
-//! damage is a row of [`KINDS`].
+//! damage is a name in the table of kinds at the end.
 
 mod damage;
 mod falling;
@@ -31,7 +31,7 @@ impl Case {
         Case { strip, ..Case::default() }
     }
 
-    /// A strip that check must refuse so. From opening on every call must.
+    /// A strip that check must refuse so. Where it is opening that refuses, every reading call must.
     pub fn refused(strip: Vec<u8>, number: usize, carried: usize) -> Case {
         Case { strip, refused: Some(Refusal { number, carried }), ..Case::default() }
     }

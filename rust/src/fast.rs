@@ -1,5 +1,5 @@
-//! The strip as one would write it in Rust for speed: whole words, constant shifts, every level in one pass. What is
-//! amiss is only noticed there; nodes opened one by one then tell the refusal.
+//! The strip as one would write it in Rust for speed: whole words, constant shifts, every level in one pass. It is there
+//! for the benchmark, so that what is amiss with a strip's nodes is noticed, but not told where they are read in one pass.
 //!
 //! The public functions are never inlined, since calls into the proved library are not.
 
@@ -15,12 +15,12 @@ mod sweep;
 mod tree;
 
 use header::{open, Level};
-use list::{read, split, Read};
+use list::{read, split};
 use shape::{Shape, HEIGHT};
 
 use crate::reference::strip::{Refusal, PINS};
 
-/// Stands for whatever is amiss with a strip's nodes, which is noticed but not told.
+/// Stands for whatever is amiss with a strip's nodes.
 const AMISS: Refusal = Refusal { number: 12, carried: 0 };
 
 #[inline(always)]
@@ -95,30 +95,22 @@ fn stored(shape: Shape, times: &[u32]) -> Vec<u32> {
     memory
 }
 
-/// Gives the strip's list to `use_list` if it is one that packs to the strip.
-fn with_list<T>(strip: &[u8], use_list: impl FnOnce(Shape, Read) -> Result<T, Refusal>) -> Result<T, Refusal> {
-    let header = open(strip)?;
-    let mut memory = list::memory(header.shape, 0);
-    let read = read(strip, &header, true, &mut memory).ok_or(AMISS)?;
-    use_list(header.shape, read)
-}
-
 /// The pin count of a strip that some list packs to.
 #[inline(never)]
 pub fn check(strip: &[u8]) -> Result<usize, Refusal> {
-    with_list(strip, |shape, _| Ok(shape.pins))
+    let header = open(strip)?;
+    let mut memory = list::memory(header.shape, 0);
+    read(strip, &header, true, &mut memory).map(|_| header.shape.pins).ok_or(AMISS)
 }
 
 /// Writes the list that packs to the strip at the front of `out` and gives the pin count.
 #[inline(never)]
 pub fn unpack(strip: &[u8], out: &mut [u32]) -> Result<usize, Refusal> {
-    with_list(strip, |shape, read| {
-        let Some(out) = out.get_mut(..shape.pins) else {
-            return Err(refusal(4, shape.pins));
-        };
-        read.write(out);
-        Ok(shape.pins)
-    })
+    let header = open(strip)?;
+    let (pins, mut memory) = (header.shape.pins, list::memory(header.shape, 0));
+    let read = read(strip, &header, true, &mut memory).ok_or(AMISS)?;
+    read.write(out.get_mut(..pins).ok_or(refusal(4, pins))?);
+    Ok(pins)
 }
 
 /// The time at position i and the nodes opened.

@@ -30,42 +30,21 @@ fn chunk_count(value: u32, b: u32) -> u32 {
 
 /// The size in bits before padding, or none where the code is refused or does not hold the values.
 pub fn size(values: &[u32], code: u8) -> Option<u64> {
-    let mut size = 0;
-    for &value in values {
-        size += match kind(code) {
-            Kind::Fixed(w) if u64::from(value) < 1 << w => u64::from(w),
-            Kind::Fixed(_) => return None,
-            // A chunk and its continuation bit.
-            Kind::Chunked(b) => u64::from(chunk_count(value, b) * (b + 1)),
-            Kind::Refused => return None,
-        };
-    }
-    // The loop says nothing of an empty level.
-    if kind(code) == Kind::Refused {
-        return None;
-    }
-    Some(size)
+    let size = |&value: &u32| match kind(code) {
+        Kind::Fixed(w) => (u64::from(value) < 1 << w).then_some(u64::from(w)),
+        // A chunk and its continuation bit.
+        Kind::Chunked(b) => Some(u64::from(chunk_count(value, b) * (b + 1))),
+        Kind::Refused => None,
+    };
+    values.iter().map(size).sum()
 }
 
 /// The code byte pack chooses, and its size in bits: "the code with fewest bits before padding. On a tie a fixed code
 /// wins, then the smaller b. A fixed width is the least that holds the level's largest value".
 pub fn choose(values: &[u32]) -> (u8, u64) {
-    let mut best = None;
-    for code in 0..=255 {
-        let Some(size) = size(values, code) else {
-            continue;
-        };
-        let rank = match kind(code) {
-            // Fixed widths tie on an empty level alone; there too the least wins.
-            Kind::Fixed(w) => (size, 0, w),
-            Kind::Chunked(b) => (size, 1, b),
-            Kind::Refused => unreachable!("a refused code has no size"),
-        };
-        if best.is_none_or(|(least, _)| rank < least) {
-            best = Some((rank, code));
-        }
-    }
-    let ((size, _, _), code) = best.expect("width 32 holds every level");
+    // The codes go up in the order in which they win a tie.
+    let sized = (0..=255).filter_map(|code| Some((size(values, code)?, code)));
+    let (size, code) = sized.min().expect("width 32 holds every level");
     (code, size)
 }
 

@@ -64,7 +64,7 @@
 //!
 //! | call | up to 1,023 pins | more |
 //! |---|---:|---:|
-//! | [`height`], [`root_place`], [`rank`] | 1,000 | 1,000 |
+//! | [`height`], [`root_place`], [`rank`] | 100 | 100 |
 //! | [`access`], [`search`], [`up_to`], [`step`](Walker::step) | 1,000 | 1,000 |
 //! | [`sweep`] | 26,000 | 26,000 |
 //! | [`pack`] | 9,000 | 396,000 |

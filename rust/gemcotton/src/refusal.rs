@@ -151,7 +151,8 @@ mod tests {
         let told: Vec<(usize, String)> = numbered.map(|(name, number)| (number, sentence(name))).collect();
         let shown: Vec<(usize, String)> = refusals(7).map(|why| (why.number(), why.to_string())).collect();
         assert_eq!(told, shown);
-        assert_eq!(HEADER.matches(": return \"").count(), told.len() + 1);
+        // The header also has a sentence for 0 and one for any other number.
+        assert_eq!(HEADER.matches(": return \"").count(), told.len() + 2);
     }
 
     #[test]

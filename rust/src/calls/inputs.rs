@@ -45,6 +45,7 @@ pub fn unpack(case: &Case, random: &mut Random) -> Vec<Input> {
     match n {
         0..=300 if case.reads() => rooms(&[], short.into_iter().chain(enough)),
         _ if case.reads() => rooms(&[], [short[random.below(2)], enough[random.below(2)]]),
+        0..=300 => rooms(&[], [short[random.below(2)], enough[random.below(2)]]),
         _ => rooms(&[], [[short, enough].concat()[random.below(4)]]),
     }
 }
@@ -96,15 +97,17 @@ pub fn access(case: &Case, random: &mut Random) -> Vec<Input> {
 }
 
 pub fn step(case: &Case, random: &mut Random) -> Vec<Input> {
-    access(case, random)
+    let n = pins(&case.strip);
+    let positions = if n <= 300 { (0..n).collect() } else { positions(case, random) };
+    numbers(positions.into_iter().chain(beyond(n)))
 }
 
-/// From the start or anywhere, and from the end or beyond. Where the reference is slow, near the end.
+/// From the start or anywhere, and from the end or beyond. Where the reference is slow, from near the end.
 pub fn walk(case: &Case, random: &mut Random) -> Vec<Input> {
     let n = pins(&case.strip);
     let from = match n {
         0..=300 => [0, random.below(n + 1)][random.below(2)],
-        PINS if case.reads() => 0,
+        301..=5000 | PINS if case.reads() => 0,
         _ => n - random.below(4),
     };
     numbers([from, beyond(n)[random.below(9)]])
