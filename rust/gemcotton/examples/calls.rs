@@ -22,24 +22,31 @@ fn main() -> Result<(), Refusal> {
     // Room for any list's strip, which is the first `length` bytes.
     let mut out = vec![0; MAX_BYTES];
     let length = pack(&mut out, &LIST)?;
-    let strip = &out[..length];
     println!("packed into {length} bytes");
 
     // A strip that comes from elsewhere is checked before its answers are relied on.
-    let pins = check(strip)?;
+    let pins = check(&out[..length])?;
     println!("accepted, with {pins} pins");
+    look_up(&out[..length])?;
+    look_up_many(&out[..length], pins)?;
+    list(&out[..length], pins)?;
+    meet_refusals(&mut out, length, pins);
+    Ok(())
+}
 
-    // By position.
+/// Looks the strip up by position and by time.
+fn look_up(strip: &[u8]) -> Result<(), Refusal> {
     let Accessed { time, nodes } = access(strip, 3)?;
     println!("position 3: {time} ms (nodes opened: {nodes})");
-
-    // By time.
     let Searched { position, nodes } = search(strip, 251)?;
     println!("first at or after 251 ms: position {position} (nodes opened: {nodes})");
     let UpTo { strikes, nodes } = up_to(strip, 250)?;
     println!("at or before 250 ms: {strikes} strikes (nodes opened: {nodes})");
+    Ok(())
+}
 
-    // By many times in one walk. The pin count is the answer where there is no strike at or after the target.
+/// By many times in one walk. The pin count is the answer where there is no strike at or after the target.
+fn look_up_many(strip: &[u8], pins: usize) -> Result<(), Refusal> {
     let mut positions = [0; TARGETS.len()];
     let nodes = sweep(&mut positions, strip, &TARGETS)?;
     println!("sweep (nodes opened: {nodes})");
@@ -50,60 +57,54 @@ fn main() -> Result<(), Refusal> {
             println!("  first at or after {target} ms: none");
         }
     }
+    Ok(())
+}
 
-    // The first gap below 150 ms.
+/// Finds the first gap below 150 ms, and lists all times: at once, and one after the other.
+fn list(strip: &[u8], pins: usize) -> Result<(), Refusal> {
     if let Some(position) = repeat(strip, 150)? {
         println!("first less than 150 ms after the one before: position {position}");
     }
-
-    // All times at once.
     let mut times = vec![0; pins];
     unpack(&mut times, strip)?;
     print!("unpacked:");
-    for time in times {
-        print!(" {time}");
-    }
-    println!();
-
-    // One time after the other. The loop ends at the end, or after the first refusal.
-    println!("walk");
+    times.iter().for_each(|time| print!(" {time}"));
+    println!("\nwalk");
+    // The loop ends at the end, or after the first refusal.
     for (position, found) in Walker::new(strip).into_iter().enumerate() {
         println!("  position {position}: {} ms", found?.time);
     }
     println!("  end");
+    Ok(())
+}
 
+fn meet_refusals(out: &mut [u8], length: usize, pins: usize) {
     // The strip without its last byte is refused. A refused step does not move the walker.
     println!("without its last byte");
-    let cut = &strip[..length - 1];
-    if let Err(refusal) = check(cut) {
-        tell("check", refusal);
-    }
+    let cut = &out[..length - 1];
     let mut walker = Walker::new(cut);
-    if let Err(refusal) = walker.step() {
-        tell("step", refusal);
-        println!("  next position: {}", walker.next);
-    }
+    tell("check", check(cut).err());
+    tell("step", walker.step().err());
+    println!("  next position: {}", walker.next);
 
     // `Fetch` and `Time` carry a node, whose position `rank` tells. With the root's time changed to 0, its left child
     // has a time below 0.
     println!("with the root's time changed to 0");
     out[7 + 5 * height(pins)] = 0;
-    if let Err(refusal @ Refusal::Time { node }) = check(&out[..length]) {
-        tell("check", refusal);
-        if let Some(position) = rank(pins, node) {
-            println!("  node {node}: position {position}");
-        }
+    let refusal = check(&out[..length]).err();
+    tell("check", refusal);
+    if let Some(Refusal::Time { node }) = refusal {
+        println!("  node {node}: position {}", rank(pins, node).unwrap_or(pins));
     }
 
     // A list that falls.
     println!("7, 6");
-    if let Err(refusal @ Refusal::ListFalls { .. }) = pack(&mut out, &FALLING) {
-        tell("pack", refusal);
-    }
-    Ok(())
+    tell("pack", pack(out, &FALLING).err());
 }
 
-/// Tells a refusal by its number and its sentence.
-fn tell(call: &str, refusal: Refusal) {
-    println!("  {call}: refused {}: {refusal}", refusal.number());
+/// Tells a refusal, if it is one, by its number and its sentence.
+fn tell(call: &str, refusal: Option<Refusal>) {
+    if let Some(refusal) = refusal {
+        println!("  {call}: refused {}: {refusal}", refusal.number());
+    }
 }

@@ -44,8 +44,7 @@ pub fn unpack(case: &Case, random: &mut Random) -> Vec<Input> {
     let (short, enough) = ([0, n.saturating_sub(1)], [n, n + 3]);
     match n {
         0..=300 if case.reads() => rooms(&[], short.into_iter().chain(enough)),
-        _ if case.reads() => rooms(&[], [short[random.below(2)], enough[random.below(2)]]),
-        0..=300 => rooms(&[], [short[random.below(2)], enough[random.below(2)]]),
+        _ if case.reads() || n <= 300 => rooms(&[], [short[random.below(2)], enough[random.below(2)]]),
         _ => rooms(&[], [[short, enough].concat()[random.below(4)]]),
     }
 }

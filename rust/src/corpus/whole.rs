@@ -138,7 +138,7 @@ pub fn ties_of_codes(random: &mut Random, visit: Visit) {
         chunked += usize::from(above_32 > 1);
         if above_32 > 0 && codes.len() > 1 {
             visit(Case::packed(with_lowest_level(&values)));
-            if round % 50 == 0 {
+            if round % 51 == 0 {
                 visit(Case::packed(with_lowest_level(&values.repeat(1024))));
             }
         }

@@ -100,6 +100,11 @@ fn open(strip: &[u8]) -> Result<Levels<'_>, Refusal> {
     if strip.len() < 7 + 5 * h {
         return refused(5, 0);
     }
+    Ok(Levels { pins: n, parts: parts(strip, h)? })
+}
+
+/// Each level's code and part: "8 from level 1 on, 13".
+fn parts(strip: &[u8], h: usize) -> Result<Vec<(u8, &[u8])>, Refusal> {
     // Level L's five bytes begin here.
     let entry = |level: usize| 7 + 5 * (level - 1);
     // 8: "level code", with the level.
@@ -110,8 +115,8 @@ fn open(strip: &[u8]) -> Result<Levels<'_>, Refusal> {
     }
     // 13: "length not 7 + 5h + parts". The sum is wide, so that no lengths make it overflow.
     let length = |level: usize| number(&strip[entry(level) + 1..entry(level) + 5]);
-    let parts: u128 = (1..=h).map(|level| length(level) as u128).sum();
-    if strip.len() as u128 != (7 + 5 * h) as u128 + parts {
+    let sum: u128 = (1..=h).map(|level| length(level) as u128).sum();
+    if strip.len() as u128 != (7 + 5 * h) as u128 + sum {
         return refused(13, 0);
     }
     let (mut parts, mut start) = (Vec::new(), 7 + 5 * h);
@@ -120,7 +125,7 @@ fn open(strip: &[u8]) -> Result<Levels<'_>, Refusal> {
         parts.push((strip[entry(level)], &strip[start..end]));
         start = end;
     }
-    Ok(Levels { pins: n, parts })
+    Ok(parts)
 }
 
 /// "Access i: 14, then fetches from the root to rank i. Gives time and nodes opened."
