@@ -24,6 +24,10 @@ pub struct Input {
 /// What is given, or the refusal.
 pub type Given = Result<Vec<usize>, Refusal>;
 
+/// The entries before and after what is lent.
+pub const BEFORE: usize = 3;
+const AFTER: usize = 9;
+
 /// What a call does.
 #[derive(Debug, PartialEq)]
 pub struct Outcome {
@@ -55,8 +59,6 @@ impl Outcome {
         fill: fn(usize) -> Entry,
         call: impl FnOnce(&mut [Entry]) -> Given,
     ) -> Outcome {
-        const BEFORE: usize = 3;
-        const AFTER: usize = 9;
         let mut memory: Vec<Entry> = (0..BEFORE + room + AFTER).map(fill).collect();
         let given = call(&mut memory[BEFORE..BEFORE + room]);
         let memory = memory.into_iter().map(Into::into).collect();

@@ -1,7 +1,7 @@
 //! The marked cases and the examples of refusals, with the answers that the scope tells. The proved library and the
 //! reference must give them.
 
-use gemcotton_tests::calls::{call, Given, Input};
+use gemcotton_tests::calls::{call, Given, Input, BEFORE};
 use gemcotton_tests::reference::strip::refused;
 use gemcotton_tests::strips::{example, packed, A, B, TIMES_A};
 
@@ -10,7 +10,7 @@ fn done(name: &str, strip: &[u8], input: &Input) -> (Given, Vec<u64>) {
     let call = call(name);
     let found = (call.proved)(strip, input);
     assert_eq!(found, (call.reference)(strip, input), "{name} {input:?}");
-    (found.given, found.memory.into_iter().skip(3).collect())
+    (found.given, found.memory.into_iter().skip(BEFORE).collect())
 }
 
 /// Of a call that takes a number.

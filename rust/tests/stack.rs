@@ -57,13 +57,10 @@ fn every_call() {
     for (n, kibibytes) in STACKS {
         let mut random = Random(1);
         for case in cases(n, &mut random) {
-            let inputs = inputs(&case, n, &mut random);
-            for (call, input) in CALLS.iter().flat_map(|call| inputs.iter().map(move |input| (call, input))) {
-                on_stack(kibibytes, || {
-                    let found = (call.proved)(&case.strip, input);
-                    let told = case.refused.filter(|_| call.name == "check");
-                    assert!(told.is_none_or(|refusal| found.given == Err(refusal)));
-                });
+            for input in inputs(&case, n, &mut random) {
+                for call in &CALLS {
+                    on_stack(kibibytes, || _ = (call.proved)(&case.strip, &input));
+                }
             }
             on_stack(kibibytes, || _ = (height(n), root_place(n), rank(n, n)));
         }
