@@ -57,12 +57,13 @@ fn every_call() {
     for (n, kibibytes) in STACKS {
         let mut random = Random(1);
         for case in cases(n, &mut random) {
-            for input in inputs(&case, n, &mut random) {
+            let inputs = inputs(&case, n, &mut random);
+            on_stack(kibibytes, || {
+                let _ = (height(n), root_place(n), rank(n, n));
                 for call in &CALLS {
-                    on_stack(kibibytes, || _ = (call.proved)(&case.strip, &input));
+                    inputs.iter().for_each(|input| _ = (call.proved)(&case.strip, input));
                 }
-            }
-            on_stack(kibibytes, || _ = (height(n), root_place(n), rank(n, n)));
+            });
         }
     }
 }
