@@ -55,7 +55,7 @@ fn near_from_start(times: &[u32], r: u32) -> usize
 }
 
 // The first position with a time before the one before it plus r, or the length.
-pub(crate) fn first_near(times: &[u32], r: u32) -> usize
+fn near_or_end(times: &[u32], r: u32) -> usize
     ensures { λ x. ⌜ x ≡ firstNear r (now (times .entry)) ⌝ }
 {
     if none_near(times, r) {
@@ -68,5 +68,15 @@ pub(crate) fn first_near(times: &[u32], r: u32) -> usize
 pub(crate) fn first_lower(times: &[u32]) -> usize
     ensures { λ r. ⌜ r ≡ firstLower (now (times .entry)) ⌝ }
 {
-    first_near(times, 0)
+    near_or_end(times, 0)
+}
+
+// The first position with a time before the one before it plus r, or the length. For r = 0 the compiler has shorter code.
+pub(crate) fn first_near(times: &[u32], r: u32) -> usize
+    ensures { λ x. ⌜ x ≡ firstNear r (now (times .entry)) ⌝ }
+{
+    if r == 0 {
+        return first_lower(times);
+    }
+    near_or_end(times, r)
 }

@@ -5,11 +5,11 @@ use borrow.Author.Needs.{needs}
 use Rattle.strip.proofs.lists.first_lower.Statement.{statement}
 use Rattle.strip.proofs.lists.first_lower.Tie as tie
 
-first-near-requires : tie.Need-first-near-requires
-first-near-requires c κs = search needs
+near-or-end-requires : tie.Need-near-or-end-requires
+near-or-end-requires c κs = search needs
 
 returns : tie.Need-returns
-returns c = c .first-near .ensures ∙ sym (lower-near (c .before .before .args .times .now))
+returns c = c .near-or-end .ensures ∙ sym (lower-near (c .before .before .args .times .now))
 
 pub first-lower-spec : {M : Type 1} → statement M
-first-lower-spec = tie.close (tie.spec first-near-requires returns)
+first-lower-spec = tie.close (tie.spec near-or-end-requires returns)

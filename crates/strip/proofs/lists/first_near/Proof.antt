@@ -1,21 +1,21 @@
--- Where `none_near` is true the first near position is the length; else `near_from_start` finds it.
-use mathlib.Core.Path.{sym}
+-- A gap of 0 is near where the time is lower than the one before (`lower-near`); any other gap is as `near_or_end` finds it.
+use mathlib.Core.Path.{_∙_}
+use Rattle.strip.proofs.Gaps.{lower-near}
 use borrow.Author.Needs.{needs}
 use Rattle.strip.proofs.lists.first_near.Statement.{statement}
 use Rattle.strip.proofs.lists.first_near.Tie as tie
 
-none-near-requires : tie.Need-none-near-requires
-none-near-requires c κs = search needs
+first-lower-requires : tie.Need-first-lower-requires
+first-lower-requires c κs = search needs
 
 returns : tie.Need-returns
-returns c = sym (c .before .none-near .ensures (c .if1 .taken))
+returns c = rw (c .before .if1 .taken) (c .first-lower .ensures ∙ lower-near (c .before .before .before .args .times .now))
 
-near-from-start-requires : tie.Need-near-from-start-requires
-near-from-start-requires c κs = search needs
+near-or-end-requires : tie.Need-near-or-end-requires
+near-or-end-requires c κs = search needs
 
 returns-2 : tie.Need-returns-2
 returns-2 c = search needs
 
 pub first-near-spec : {M : Type 1} → statement M
-first-near-spec =
-    tie.close (tie.spec none-near-requires returns near-from-start-requires returns-2)
+first-near-spec = tie.close (tie.spec first-lower-requires returns near-or-end-requires returns-2)
