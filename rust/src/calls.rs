@@ -79,10 +79,13 @@ pub struct Call {
     pub plain: fn(&Plain, &Input) -> Outcome,
     /// The numbers that it may be refused with. The corpus must lead to each of them often.
     pub refusals: &'static [usize],
+    /// Those among them that it must also be refused with after it has written, and 0 where it must also answer for strips
+    /// that check refuses for their times.
+    pub besides: &'static [usize],
 }
 
 macro_rules! call {
-    ($name:ident, $refusals:expr) => {
+    ($name:ident, $refusals:expr, $besides:expr) => {
         Call {
             name: stringify!($name),
             inputs: inputs::$name,
@@ -90,22 +93,23 @@ macro_rules! call {
             reference: expected::$name,
             plain: |plain, input| plain.$name(input),
             refusals: &$refusals,
+            besides: &$besides,
         }
     };
 }
 
 /// All calls. `walk` is a walker that is iterated, from a position on.
 pub const CALLS: [Call; 10] = [
-    call!(pack, [1, 2, 3, 4]),
-    call!(check, [1, 5, 6, 7, 8, 9, 10, 11, 12, 13]),
-    call!(unpack, [1, 4, 5, 6, 7, 8, 9, 10, 11, 12, 13]),
-    call!(access, [1, 5, 6, 7, 8, 9, 10, 13, 14]),
-    call!(search, [1, 5, 6, 7, 8, 9, 10, 13]),
-    call!(up_to, [1, 5, 6, 7, 8, 9, 10, 13]),
-    call!(sweep, [1, 5, 6, 7, 8, 9, 10, 13, 15, 16]),
-    call!(repeat, [1, 5, 6, 7, 8, 9, 10, 11, 13]),
-    call!(step, [1, 5, 6, 7, 8, 9, 10, 13]),
-    call!(walk, [1, 5, 6, 7, 8, 9, 10, 13]),
+    call!(pack, [1, 2, 3, 4], []),
+    call!(check, [1, 5, 6, 7, 8, 9, 10, 11, 12, 13], []),
+    call!(unpack, [1, 4, 5, 6, 7, 8, 9, 10, 11, 12, 13], []),
+    call!(access, [1, 5, 6, 7, 8, 9, 10, 13, 14], [0]),
+    call!(search, [1, 5, 6, 7, 8, 9, 10, 13], [0]),
+    call!(up_to, [1, 5, 6, 7, 8, 9, 10, 13], [0]),
+    call!(sweep, [1, 5, 6, 7, 8, 9, 10, 13, 15, 16], [0, 9, 10]),
+    call!(repeat, [1, 5, 6, 7, 8, 9, 10, 11, 13], [0]),
+    call!(step, [1, 5, 6, 7, 8, 9, 10, 13], [0]),
+    call!(walk, [1, 5, 6, 7, 8, 9, 10, 13], [0]),
 ];
 
 /// The call of this name.

@@ -1,7 +1,7 @@
 //! Runs a call of the table over the corpus: the proved library must do what the reference does, and what the list
 //! alone tells where a strip reads as one.
 
-use std::collections::BTreeMap;
+use std::collections::{BTreeMap, BTreeSet};
 
 use crate::calls::{Call, Input, Outcome};
 use crate::corpus::{kinds, Case};
@@ -10,16 +10,27 @@ use crate::random::Random;
 use crate::reference::strip::Refusal;
 use crate::strips::pins;
 
-/// How often the corpus must lead to each refusal of a call.
+/// How often the corpus must lead to each end of a call.
 const LEAST: usize = 100;
 
 /// The numbers that opening refuses with, which every reading call does first.
 const OPENING: [usize; 6] = [5, 6, 7, 1, 8, 13];
 
-/// How often a call ended so: by the numbers of refusals, and with an answer at 0.
-pub type Tally = BTreeMap<usize, usize>;
+/// How a call ended: with the refusal of this number, and whether it had written before; or, at 0, with an answer, and
+/// whether that was of a strip without times at all positions or with times that fall.
+type End = (usize, bool);
 
-/// Compares the call on the whole corpus. It must often be refused with each of its numbers, and with no other one.
+/// How often a call ended so.
+type Tally = BTreeMap<End, usize>;
+
+/// The ends that the corpus must lead a call to.
+fn ends(call: &Call) -> BTreeSet<End> {
+    let plain = call.refusals.iter().chain([&0]).map(|&number| (number, false));
+    let marked = call.besides.iter().map(|&number| (number, true));
+    plain.chain(marked).collect()
+}
+
+/// Compares the call on the whole corpus. It must often come to each of its ends, and to no other one.
 pub fn compare(call: &Call) {
     let mut tally = Tally::new();
     for kind in kinds(call.name) {
@@ -29,8 +40,8 @@ pub fn compare(call: &Call) {
         });
     }
     println!("{}: {} times: {tally:?}", call.name, tally.values().sum::<usize>());
-    let numbers: Vec<usize> = tally.keys().copied().filter(|&number| number > 0).collect();
-    assert_eq!(numbers, call.refusals, "{}: {tally:?}", call.name);
+    let met: BTreeSet<End> = tally.keys().copied().collect();
+    assert_eq!(met, ends(call), "{}: {tally:?}", call.name);
     let least = tally.values().all(|&count| count >= LEAST);
     assert!(least, "{}: {tally:?}", call.name);
 }
@@ -44,6 +55,7 @@ fn compare_case(call: &Call, kind: &str, case: &Case, tally: &mut Tally, random:
     let list = case.list.as_deref().filter(|_| case.reads());
     let plain = list.map(|list| Plain::new(list, &case.image, case.refused));
     let seen = seen_by_reference(pins(strip), plain.is_some());
+    let unread = call.name != "pack" && is_unread(strip);
     for (i, input) in inputs.iter().enumerate() {
         let found = (call.proved)(strip, input);
         let place = || format!("{} in {kind}: {}, {}", call.name, told(input), front(strip));
@@ -56,9 +68,22 @@ fn compare_case(call: &Call, kind: &str, case: &Case, tally: &mut Tally, random:
         if let Some(refusal) = case.refused.filter(|refusal| is_told(call, refusal)) {
             assert_eq!(found.given, Err(refusal), "{}", place());
         }
-        let number = found.given.map_or_else(|refusal| refusal.number, |_| 0);
-        *tally.entry(number).or_default() += 1;
+        let end = match &found.given {
+            Ok(_) => (0, unread),
+            Err(refusal) => (refusal.number, call.name == "sweep" && found != untouched(input, *refusal)),
+        };
+        *tally.entry(end).or_default() += 1;
     }
+}
+
+/// Whether check refuses the strip for its times, or for what opening finds.
+fn is_unread(strip: &[u8]) -> bool {
+    gemcotton::check(strip).is_err_and(|refusal| refusal != gemcotton::Refusal::Image)
+}
+
+/// A sweep that is so refused and has written nothing.
+fn untouched(input: &Input, refusal: Refusal) -> Outcome {
+    Outcome::of_words(input.room, |_| Err(refusal))
 }
 
 /// How many inputs the reference sees. It is slow, and where a list tells what a long strip must answer, it sees few.

@@ -31,11 +31,13 @@ fn sweep(strip: &[u8], targets: &[u32], positions: &[u64], given: Given) {
     assert_eq!(memory[..positions.len()], *positions);
 }
 
-/// The corpus has these lists with their strips.
 #[test]
 fn packing() {
-    assert_eq!(packed(&TIMES_A), A);
-    assert_eq!(packed(&[0]), B);
+    for (times, strip) in [(&TIMES_A[..], &A[..]), (&[0], &B)] {
+        let (given, memory) = lent("pack", &[], times, strip.len());
+        assert_eq!(given, Ok(vec![strip.len()]));
+        assert_eq!(memory[..strip.len()], strip.iter().map(|&byte| byte.into()).collect::<Vec<u64>>());
+    }
 }
 
 #[test]

@@ -3,7 +3,7 @@
 use std::thread;
 
 use gemcotton::{height, rank, root_place, MAX_BYTES};
-use gemcotton_tests::calls::{Input, CALLS};
+use gemcotton_tests::calls::{Call, Input, Outcome, CALLS};
 use gemcotton_tests::corpus::Case;
 use gemcotton_tests::lists::{few_lists, sorted};
 use gemcotton_tests::parts::{any_code, chosen};
@@ -52,6 +52,15 @@ fn inputs(case: &Case, n: usize, random: &mut Random) -> Vec<Input> {
     [(0, n), (n / 2, n), (n - 1, n), (n, n), (n, MAX_BYTES)].map(input).to_vec()
 }
 
+/// What check and pack must do is known of most cases. Where they do it, the strip is one that opening takes.
+fn check_known(call: &Call, case: &Case, input: &Input, found: Outcome) {
+    match call.name {
+        "check" if case.list.is_some() || case.refused.is_some() => assert_eq!(found.given.err(), case.refused),
+        "pack" if case.reads() && input.room == MAX_BYTES => assert_eq!(found.given, Ok(vec![case.image.len()])),
+        _ => {}
+    }
+}
+
 #[test]
 fn every_call() {
     for (n, kibibytes) in STACKS {
@@ -61,7 +70,9 @@ fn every_call() {
             on_stack(kibibytes, || {
                 let _ = (height(n), root_place(n), rank(n, n));
                 for call in &CALLS {
-                    inputs.iter().for_each(|input| _ = (call.proved)(&case.strip, input));
+                    for input in &inputs {
+                        check_known(call, &case, input, (call.proved)(&case.strip, input));
+                    }
                 }
             });
         }

@@ -18,8 +18,8 @@ ghost use Rattle.strip.specs.Outcomes.{gives, refuses};
 ghost use Rattle.strip.specs.Calls.{checkOf};
 ghost use Rattle.pinlist.specs.Texts.{mostBytes, printed};
 
-// Writes the piece that comes next in what is printed for the input s, whose first `done` bytes are written, and answers how many are then.
-// Nothing else writes: the pieces from 0 to the length that `print` answers are the whole text. The input serves the contract alone.
+// Writes the piece of what is printed for the input s that begins at byte `done`, and answers where it ends. Nothing else writes, and each call
+// goes on from the answer of the one before, 0 at first, to the length that `print` answers. The input serves the contract alone.
 fn write_next(s: &[u8], done: usize, piece: &[u8]) -> usize
     requires { ⌜ take done (printed (now s)) ++ now piece ≡ take (done + length (now piece)) (printed (now s)) ⌝ }
     ensures { λ r. ⌜ r ≡ done + length (now (piece .entry)) ⌝ }

@@ -3,8 +3,6 @@
 use std::error::Error;
 use std::fmt;
 
-use crate::MAX_PINS;
-
 /// Makes [`Refusal`] of a table, in which each refusal stands once: its number, its name, what it carries if it carries
 /// anything, and its sentence. `include/gemcotton.h` has the same for C.
 macro_rules! refusals {
@@ -64,8 +62,8 @@ macro_rules! refusals {
 refusals! {
     /// There are no pins, in the list or by the strip's header.
     1 Empty => "there are no pins";
-    /// The list has more than [`MAX_PINS`] pins.
-    2 TooMany => "there are more than {MAX_PINS} pins";
+    /// The list has more than [`MAX_PINS`](crate::MAX_PINS) pins.
+    2 TooMany => "there are more than 65535 pins";
     /// The list falls.
     3 ListFalls {
         /// The first position with a lower time than the one before.

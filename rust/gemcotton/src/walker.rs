@@ -10,7 +10,7 @@ use crate::{Accessed, Refusal};
 /// [`step`](Walker::step) gives the time at the next position and moves the walker on by one. In a `for` loop a walker
 /// gives the times from its next position on; [`Times`] says where the loop ends. A walker takes any strip, and does
 /// not look whether it is accepted, as [`check`](crate::check) does. Each step opens the strip and goes down from the
-/// root, while [`unpack`](crate::unpack) opens each node once.
+/// root, while [`unpack`](crate::unpack) reads each level once.
 ///
 /// ```
 /// use gemcotton::{pack, Refusal, Walker};

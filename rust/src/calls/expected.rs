@@ -5,15 +5,18 @@ use crate::reference::strip::{self, Access, Refusal};
 use crate::strips::{is_fixed, pins};
 
 /// The access of calls that may read many positions. The reference reads all bits of a chunked level anew for each
-/// position, so that the proved one, which is compared with it, takes its place in long strips.
+/// position, so that in long strips the proved one, which is compared with it, takes its place where it finds a time. A
+/// refusal is always the reference's own.
 fn quickest_access(bytes: &[u8]) -> Access {
     if pins(bytes) < 1000 || is_fixed(bytes) {
         return strip::access;
     }
     |bytes, number| {
         let input = Input { number, ..Input::default() };
-        let found = proved::access(bytes, &input).given?;
-        Ok((found[0] as u32, found[1]))
+        match proved::access(bytes, &input).given {
+            Ok(found) => Ok((found[0] as u32, found[1])),
+            Err(_) => strip::access(bytes, number),
+        }
     }
 }
 

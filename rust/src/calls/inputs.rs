@@ -7,7 +7,7 @@ use crate::lists::sorted;
 use crate::random::Random;
 use crate::reference::strip::PINS;
 use crate::reference::tree::height;
-use crate::strips::pins;
+use crate::strips::{is_fixed, pins};
 
 fn numbers(numbers: impl IntoIterator<Item = usize>) -> Vec<Input> {
     let input = |number| Input { number, ..Input::default() };
@@ -107,6 +107,7 @@ pub fn walk(case: &Case, random: &mut Random) -> Vec<Input> {
     let from = match n {
         0..=300 => [0, random.below(n + 1)][random.below(2)],
         301..=5000 | PINS if case.reads() => 0,
+        301..=10_000 if is_fixed(&case.strip) => 0,
         _ => n - random.below(4),
     };
     numbers([from, beyond(n)[random.below(9)]])
