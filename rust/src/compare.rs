@@ -68,9 +68,11 @@ fn compare_case(call: &Call, kind: &str, case: &Case, tally: &mut Tally, random:
         if let Some(refusal) = case.refused.filter(|refusal| is_told(call, refusal)) {
             assert_eq!(found.given, Err(refusal), "{}", place());
         }
+        // A sweep that has written nothing.
+        let untouched = |refusal| Outcome::of_words(input.room, |_| Err(refusal));
         let end = match &found.given {
             Ok(_) => (0, unread),
-            Err(refusal) => (refusal.number, call.name == "sweep" && found != untouched(input, *refusal)),
+            Err(refusal) => (refusal.number, call.name == "sweep" && found != untouched(*refusal)),
         };
         *tally.entry(end).or_default() += 1;
     }
@@ -79,11 +81,6 @@ fn compare_case(call: &Call, kind: &str, case: &Case, tally: &mut Tally, random:
 /// Whether check refuses the strip for its times, or for what opening finds.
 fn is_unread(strip: &[u8]) -> bool {
     gemcotton::check(strip).is_err_and(|refusal| refusal != gemcotton::Refusal::Image)
-}
-
-/// A sweep that is so refused and has written nothing.
-fn untouched(input: &Input, refusal: Refusal) -> Outcome {
-    Outcome::of_words(input.room, |_| Err(refusal))
 }
 
 /// How many inputs the reference sees. It is slow, and where a list tells what a long strip must answer, it sees few.
