@@ -14,7 +14,8 @@ use Rattle.codes.specs.Fetch.{Fetched, value}
 use Rattle.tree.specs.Shape.{rank}
 use Rattle.tree.specs.Lists.{ordered}
 use Rattle.tree.specs.Stored.{timeOf, timeAbove, stored}
-use Rattle.tree.specs.Times.{at, under, nodeTime}
+use Rattle.tree.specs.Outcomes.{gives}
+use Rattle.tree.specs.Times.{under, nodeTime}
 use Rattle.tree.proofs.Stretches.{Child, left, right, child}
 use Rattle.tree.proofs.NodeTimes.{time-above, time-step}
 use Rattle.tree.proofs.Orders.{getD-ordered}
@@ -30,7 +31,7 @@ unfolding timeAbove
 above-child xs v h = rw (le-ltb v 2 h)
 
 -- a parent that has the list's time
-pub above-at : (xs : List ℕ) (fetch : ℕ → Fetched) (v : ℕ) → 1 ≤ v → (1 ≤ v / 2 → nodeTime fetch (v / 2) ≡ at (timeOf xs (v / 2))) → nodeTime fetch (v / 2) ≡ at (timeAbove xs v)
+pub above-at : (xs : List ℕ) (fetch : ℕ → Fetched) (v : ℕ) → 1 ≤ v → (1 ≤ v / 2 → nodeTime fetch (v / 2) ≡ gives (timeOf xs (v / 2))) → nodeTime fetch (v / 2) ≡ gives (timeAbove xs v)
 above-at xs fetch v h r = elim (decLt v 2) [
   | yes l ↦ let e : v / 2 ≡ 0 = omega arith in rw (e, above-root xs v l) (time-above fetch)
   | no l ↦ rw (above-child xs v (omega arith)) (r (omega arith))
@@ -69,23 +70,23 @@ module _ (xs : List ℕ) (o : T (ordered xs)) where
     unfolding timeOf
     time-small v = bound (rank (length xs) v)
 
-    under-stored : (v : ℕ) → 1 ≤ v → v ≤ length xs → under v (at (timeAbove xs v)) (value (stored xs v)) ≡ at (timeOf xs v)
+    under-stored : (v : ℕ) → 1 ≤ v → v ≤ length xs → under v (gives (timeAbove xs v)) (value (stored xs v)) ≡ gives (timeOf xs v)
     unfolding stored
     under-stored v h k = elim (ℕ-discrete (v % 2) 0) [
       | yes e ↦
           let s = sides v h k .even e in
-          rw (e, le-ltb (timeAbove xs v) (timeAbove xs v - timeOf xs v) (omega arith)) (ap at (omega arith))
+          rw (e, le-ltb (timeAbove xs v) (timeAbove xs v - timeOf xs v) (omega arith)) (ap gives (omega arith))
       | no e ↦
           let s = sides v h k .odd (omega arith) in
           let b : timeAbove xs v + (timeOf xs v - timeAbove xs v) < 4294967296 = omega (arith, time-small v) in
-          rw (ne-eqb (v % 2) 0 e, lt-ltb (timeAbove xs v + (timeOf xs v - timeAbove xs v)) 4294967296 b) (ap at (omega arith))
+          rw (ne-eqb (v % 2) 0 e, lt-ltb (timeAbove xs v + (timeOf xs v - timeAbove xs v)) 4294967296 b) (ap gives (omega arith))
     ]
 
     module _ (fetch : ℕ → Fetched) (holds : (v : ℕ) → 1 ≤ v → v ≤ length xs → fetch v ≡ value (stored xs v)) where
-      times-to : (f v : ℕ) → v ≤ f → 1 ≤ v → v ≤ length xs → nodeTime fetch v ≡ at (timeOf xs v)
+      times-to : (f v : ℕ) → v ≤ f → 1 ≤ v → v ≤ length xs → nodeTime fetch v ≡ gives (timeOf xs v)
       times-to zero v a b c = absurd (omega arith)
       times-to (suc f) v a b c =
           time-step fetch v b ∙ rw (above-at xs fetch v b (λ d. times-to f (v / 2) (half-le a) d (omega arith)), holds v b c) (under-stored v b c)
 
-      pub times-back : (v : ℕ) → 1 ≤ v → v ≤ length xs → nodeTime fetch v ≡ at (timeOf xs v)
+      pub times-back : (v : ℕ) → 1 ≤ v → v ≤ length xs → nodeTime fetch v ≡ gives (timeOf xs v)
       times-back v h k = times-to v v (le-refl v) h k

@@ -1,23 +1,26 @@
 -- What a target drops of the remembered nodes, where it goes on, and what a sweep answers by it.
 use mathlib.Core.Path.{_≡_, refl, sym, ap, subst, _∙_}
 use mathlib.Core.Bool.{Bool, true, false, cond}
-use mathlib.Core.List.{List, [], _∷_}
-use Prim.Native.Nat.{ℕ, zero, suc, _-_, _≤_, _<_}
+use mathlib.Core.List.{List, [], _∷_, _++_}
+use Prim.Native.Nat.{ℕ, zero, suc, _+_, _-_, _≤_, _<_}
 use native.Mathlib.Nat.{le-refl}
 use native.Mathlib.Decide.{ℕ-discrete}
 use native.Mathlib.Omega.{arith}
 use lib.Dec.{ltb}
-use lib.ListN.{getD}
+use lib.ListN.{length, getD, length-append}
 use borrow.Author.Tests.{eq-eqb, ne-eqb}
 use Rattle.tree.specs.declared.nodes.Levels.{Levels}
 use Rattle.tree.specs.declared.targets.Progress.{Progress}
 use Rattle.tree.specs.Shape.{childOf, stretch}
-use Rattle.tree.specs.Times.{Time, known, timesIn}
-use Rattle.tree.specs.Walks.{Answer, found, stopped, isBelow, keptFrom, targetFrom}
-use Rattle.tree.specs.Sweeps.{Dropped, dropped, Sweep, positionThen, sweepFrom}
+use Rattle.tree.specs.declared.walking.Found.{Found}
+use Rattle.tree.specs.Outcomes.{Outcome, gives, refuses, known}
+use Rattle.tree.specs.Times.{timesIn}
+use Rattle.tree.specs.Walks.{met, found, never, isBelow, position, targetFrom}
+use Rattle.tree.specs.Sweeps.{dropped, Leg, leg, legsFrom, opened, positions}
 use Rattle.tree.specs.Remembering.{entries, leftBy, GoesOn, resumedAt, answerOn, keptOn, Comes}
 use Rattle.tree.proofs.Stretches.{stretch-child}
 use Rattle.tree.proofs.Steps.{stands-place, stands-rank, stands-end, kept-end, target-end}
+use Rattle.tree.proofs.Walks.{walk-out, met-append, met-other, met-gives}
 use Rattle.tree.proofs.Remembering.{place-side}
 
 -- ---- how many are left
@@ -85,7 +88,7 @@ module _ (levels : Levels) (s nodes times : List ℕ) (t : ℕ) where
       p = record { count = suc c; v = v; above = above; opened = k }
 
       below : isBelow (timesIn levels s) t (getD nodes c 0) ≡ ltb (getD times c 0) t
-      below = ap (λ (z : Time). ltb (known z) t) (g .entry c (le-refl (suc c)) .time)
+      below = ap (λ (z : Outcome ℕ). ltb (known z) t) (g .entry c (le-refl (suc c)) .time)
 
       go : (b : Bool) → ltb (getD times c 0) t ≡ b → Resumes levels s nodes times t (oneLess nodes times c k) (resumedAt nodes times (oneLess nodes times c k) t)
           → Resumes levels s nodes times t p (resumedAt nodes times p t)
@@ -97,52 +100,80 @@ module _ (levels : Levels) (s nodes times : List ℕ) (t : ℕ) where
 
 -- ---- a target of a sweep
 
--- the next target goes on from d
-abbrev nextFrom : ℕ → (ℕ → Time) → ℕ → ℕ → List ℕ → Dropped → Sweep
-nextFrom n time t k ts d = positionThen (targetFrom n time t (d .kept) k (d .from)) (λ j. sweepFrom n time (suc n) (keptFrom n time t (d .kept) (d .from)) j ts)
-
 -- no number above n is a node
-sweep-missing : (n : ℕ) (time : ℕ → Time) (u v : ℕ) → n < u → n < v → (kept : List ℕ) (k : ℕ) (ts : List ℕ) → sweepFrom n time u kept k ts ≡ sweepFrom n time v kept k ts
-unfolding sweepFrom dropped
-sweep-missing n time u v h i kept k [] = refl
-sweep-missing n time u v h i kept k (t ∷ ts) = by kept
+legs-missing : (n : ℕ) (time : ℕ → Outcome ℕ) (u v : ℕ) → n < u → n < v → (kept ts : List ℕ) → legsFrom n time u kept ts ≡ legsFrom n time v kept ts
+unfolding legsFrom dropped
+legs-missing n time u v h i kept [] = refl
+legs-missing n time u v h i kept (t ∷ ts) = ap (λ (l : Leg). l ∷ legsFrom n time (suc n) (l .kept) ts) (by kept)
   where
-    none : (kept : List ℕ) → nextFrom n time t k ts (record { from = u; kept = kept }) ≡ nextFrom n time t k ts (record { from = v; kept = kept })
-    none kept = rw (target-end n time t kept k u h, target-end n time t kept k v i, kept-end n time t kept u h, kept-end n time t kept v i)
+    none : (kept : List ℕ) → leg n time t (record { from = u; kept = kept }) ≡ leg n time t (record { from = v; kept = kept })
+    none kept = rw (walk-out n never (isBelow time t) u h, walk-out n never (isBelow time t) v i)
 
-    by : (kept : List ℕ) → nextFrom n time t k ts (dropped (isBelow time t) u kept) ≡ nextFrom n time t k ts (dropped (isBelow time t) v kept)
+    by : (kept : List ℕ) → leg n time t (dropped (isBelow time t) u kept) ≡ leg n time t (dropped (isBelow time t) v kept)
     by [] = none []
     by (w ∷ ws) = some (isBelow time t w)
       where
-        some : (b : Bool) → nextFrom n time t k ts (cond b (dropped (isBelow time t) (childOf true w) ws) (record { from = u; kept = w ∷ ws }))
-            ≡ nextFrom n time t k ts (cond b (dropped (isBelow time t) (childOf true w) ws) (record { from = v; kept = w ∷ ws }))
+        some : (b : Bool) → leg n time t (cond b (dropped (isBelow time t) (childOf true w) ws) (record { from = u; kept = w ∷ ws }))
+            ≡ leg n time t (cond b (dropped (isBelow time t) (childOf true w) ws) (record { from = v; kept = w ∷ ws }))
         some true = refl
         some false = none (w ∷ ws)
 
--- a sweep that has come so far
-abbrev pub sweepOn : Levels → List ℕ → List ℕ → Progress → List ℕ → Sweep
-sweepOn levels s nodes p ts = sweepFrom (levels .pins) (timesIn levels s) (p .v) (entries nodes (p .count)) (p .opened) ts
+module _ (levels : Levels) (s nodes : List ℕ) (p : Progress) (ts : List ℕ) where
+  -- the targets that are left of a sweep that has come so far
+  abbrev pub legsOn : List Leg
+  legsOn = legsFrom (levels .pins) (timesIn levels s) (p .v) (entries nodes (p .count)) ts
+
+  -- what it answers, and their positions
+  abbrev pub sweepOn : Outcome ℕ
+  sweepOn = met (timesIn levels s) (opened legsOn) (p .opened + length (opened legsOn))
+
+  abbrev pub positionsOn : List ℕ
+  positionsOn = positions (levels .pins) (timesIn levels s) legsOn
 
 module _ {levels : Levels} {s nodes times : List ℕ} {t : ℕ} {p q : Progress} (r : Resumes levels s nodes times t p q) (ts : List ℕ) where
   abbrev n : ℕ
   n = levels .pins
 
-  -- by what the target answers
-  sweep-by : (a : Answer) → answerOn levels s t nodes q ≡ a
-      → sweepOn levels s nodes p (t ∷ ts) ≡ positionThen a (λ j. sweepFrom n (timesIn levels s) (suc n) (keptOn levels s t nodes q) j ts)
-  unfolding sweepFrom
-  sweep-by a e = rw (r .drops, ← r .same, e)
+  abbrev read : ℕ → Outcome ℕ
+  read = timesIn levels s
 
-  pub sweep-stopped : (k c : ℕ) → answerOn levels s t nodes q ≡ stopped k c → sweepOn levels s nodes p (t ∷ ts) ≡ record { positions = []; answer = stopped k c }
-  sweep-stopped k c e = sweep-by (stopped k c) e
+  abbrev here : Leg
+  here = leg n read t (record { from = q .v; kept = entries nodes (q .count) })
+
+  abbrev later : List Leg
+  later = legsFrom n read (suc n) (here .kept) ts
+
+  first-leg : legsOn levels s nodes p (t ∷ ts) ≡ here ∷ later
+  unfolding legsFrom
+  first-leg = rw (r .drops)
+
+  pub sweep-stopped : {k c : ℕ} → answerOn levels s t nodes q ≡ refuses k c
+      → (sweepOn levels s nodes p (t ∷ ts) ≡ refuses k c) × (positionsOn levels s nodes p (t ∷ ts) ≡ [])
+  unfolding opened positions targetFrom
+  sweep-stopped e =
+      let all = opened (here ∷ later) in
+      let answer = found (position n (here .kept)) (q .opened + length (here .nodes)) in
+      rw first-leg (
+        met-append read (here .nodes) (opened later) (p .opened + length all) answer ∙ rw e,
+        rw (met-other read (here .nodes) (position n (here .kept)) answer, e),
+      )
 
   -- it comes to a missing child, whose place is its position
   pub sweep-next : {nodes' times' : List ℕ} {u : Progress} → Comes levels s t nodes q nodes' times' u → n < u .v
-      → sweepOn levels s nodes p (t ∷ ts) ≡ record { positions = stretch n (u .v) .start ∷ sweepOn levels s nodes' u ts .positions; answer = sweepOn levels s nodes' u ts .answer }
+      → (sweepOn levels s nodes p (t ∷ ts) ≡ sweepOn levels s nodes' u ts)
+      × (positionsOn levels s nodes p (t ∷ ts) ≡ stretch n (u .v) .start ∷ positionsOn levels s nodes' u ts)
+  unfolding opened positions targetFrom
   sweep-next {nodes'} {times'} {u} m h =
-      let read = timesIn levels s in
       let kept = entries nodes' (u .count) in
       let place = m .goes .place in
-      sweep-by (found (stretch n (u .v) .start) (u .opened))
-      (sym (m .answer) ∙ target-end n read t kept (u .opened) (u .v) h ∙ ap (λ (i : ℕ). found i (u .opened)) (sym (place .ends) ∙ stands-end (place .stands) h))
-      ∙ rw (← m .kept, kept-end n read t kept (u .v) h, sweep-missing n read (suc n) (u .v) (le-refl (suc n)) h kept (u .opened) ts)
+      let answer = found (position n (here .kept)) (q .opened + length (here .nodes)) in
+      let e = sym (m .answer) ∙ target-end n read t kept (u .opened) (u .v) h in
+      let count : q .opened + length (here .nodes) ≡ u .opened = ap (λ (f : Found). f .nodes) (met-gives read (here .nodes) answer _ e) in
+      let same : here .kept ≡ kept = sym (m .kept) ∙ kept-end n read t kept (u .v) h in
+      let rest : later ≡ legsOn levels s nodes' u ts = rw same (legs-missing n read (suc n) (u .v) (le-refl (suc n)) h kept ts) in
+      let all : p .opened + length (here .nodes ++ opened later) ≡ u .opened + length (opened later) = omega (arith, length-append (here .nodes) (opened later), r .same) in
+      rw first-leg (
+        met-append read (here .nodes) (opened later) _ answer ∙ rw (e, all, rest),
+        rw (met-other read (here .nodes) (position n (here .kept)) answer, e, rest)
+        (ap (λ (i : ℕ). i ∷ positionsOn levels s nodes' u ts) (ap (position n) same ∙ sym (place .ends) ∙ stands-end (place .stands) h)),
+      )

@@ -14,7 +14,8 @@ use Rattle.codes.specs.Fetch.{value}
 use Rattle.tree.specs.declared.nodes.Levels.{Levels}
 use Rattle.tree.specs.Shape.{rank}
 use Rattle.tree.specs.Levels.{fetchedAt}
-use Rattle.tree.specs.Times.{at, under, timesIn}
+use Rattle.tree.specs.Outcomes.{gives}
+use Rattle.tree.specs.Times.{under, timesIn}
 use Rattle.tree.specs.Merged.{KnownValues, KnownRanks, MergedFrom, Merges, AllMerged}
 use Rattle.tree.proofs.NodeTimes.{time-above, time-step, time-left, time-right}
 use Rattle.tree.proofs.LevelRanks.{rank-last, rank-above}
@@ -61,9 +62,9 @@ moved-all before above count i now stored h e w = rw (← e) record {
 -- ---- one node more
 
 module _ {before stored now : List ℕ} {above j : ℕ} (w : MergedFrom before stored above (suc j) now) (few : j < length stored) (full : length stored ≤ suc above)
-    (room : above + length stored ≤ length before) (t : ℕ) (e : at t ≡ under (suc above + j) (at (getD before (j / 2 * 2) 0)) (value (getD stored j 0))) where
+    (room : above + length stored ≤ length before) (t : ℕ) (e : gives t ≡ under (suc above + j) (gives (getD before (j / 2 * 2) 0)) (value (getD stored j 0))) where
   nodes-next : (now′ : List ℕ) → getD now′ (2 * j) 0 ≡ t → ((i : ℕ) → 2 * j < i → getD now′ i 0 ≡ getD now i 0)
-      → (i : ℕ) → j ≤ i → i < length stored → at (getD now′ (2 * i) 0) ≡ under (suc above + i) (at (getD before (i / 2 * 2) 0)) (value (getD stored i 0))
+      → (i : ℕ) → j ≤ i → i < length stored → gives (getD now′ (2 * i) 0) ≡ under (suc above + i) (gives (getD before (i / 2 * 2) 0)) (value (getD stored i 0))
   nodes-next now′ own same i h k = elim (ℕ-discrete i j) [
     | yes z ↦ rw (z, own) e
     | no z ↦ rw (same (2 * i) (omega arith)) (w .nodes i (omega arith) k)
@@ -106,7 +107,7 @@ module _ {before stored now : List ℕ} {above j : ℕ} (w : MergedFrom before s
 -- the same as the code does it, for a left child; its parent is not read yet
 module _ (stored was : List ℕ) (j : ℕ) (few : j < length stored) (even : j % 2 ≡ 0) (fits : getD stored j 0 ≤ getD was j 0) where
   left-is : (before : List ℕ) (above : ℕ) → above / 2 * 2 + 1 ≡ above → MergedFrom before stored above (suc j) was
-      → at (getD was j 0 - getD stored j 0) ≡ under (suc above + j) (at (getD before (j / 2 * 2) 0)) (value (getD stored j 0))
+      → gives (getD was j 0 - getD stored j 0) ≡ under (suc above + j) (gives (getD before (j / 2 * 2) 0)) (value (getD stored j 0))
   left-is before above odd w =
       let e : j / 2 * 2 ≡ j = omega arith in
       rw (e, ← (w .unread j (omega arith))) (time-left (suc above + j) (getD was j 0) (getD stored j 0) (omega arith) fits)
@@ -131,7 +132,7 @@ merges-right stored was q few fits before above odd full room w =
     let e₅ : 2 * suc (2 * q) - 1 ≡ 4 * q + 1 = omega arith in
     let e₆ : suc (2 * q) - 1 ≡ 2 * q = omega arith in
     let p = w .unread (2 * q) (omega arith) in
-    let own : at t ≡ under (suc above + suc (2 * q)) (at (getD before (suc (2 * q) / 2 * 2) 0)) (value (getD stored (suc (2 * q)) 0)) =
+    let own : gives t ≡ under (suc above + suc (2 * q)) (gives (getD before (suc (2 * q) / 2 * 2) 0)) (value (getD stored (suc (2 * q)) 0)) =
     rw (e₃, ← p, ← e₂) (time-right (suc above + (2 * q + 1)) (getD was (2 * q) 0) (getD stored (2 * q + 1) 0) (omega arith) fits) in
     rw (e₅, e₄, e₆, ← p) at (merged-next (rw e₁ at w) (omega arith) full room t own (omega arith))
 
@@ -155,7 +156,7 @@ merged-ranks levels s before stored now above j full some few values w known v a
       let r = rank-lt above v a (omega arith) in
       let less : above + length stored - above ≡ length stored = omega arith in
       let own = rw less at (rank-above (above + length stored) above j v full (omega arith) (omega arith) a (omega arith)) in
-      known v a (omega arith) ∙ rw own (ap at (sym (w .entries (rank above v) (omega arith) r)))
+      known v a (omega arith) ∙ rw own (ap gives (sym (w .entries (rank above v) (omega arith) r)))
 ]
 
 -- ---- all levels
@@ -172,7 +173,7 @@ pub record Grown (values before : List ℕ) (first : ℕ) (now : List ℕ) : Typ
   pub listed : (levels : Levels) (s : List ℕ) → KnownValues levels s values → KnownRanks levels s (min (first - 1) (length values)) now
 
 -- the root stores its time
-root-time : (levels : Levels) (s values : List ℕ) → KnownValues levels s values → 1 ≤ length values → getD values 0 0 < 2 ^ 32 → timesIn levels s 1 ≡ at (getD values 0 0)
+root-time : (levels : Levels) (s values : List ℕ) → KnownValues levels s values → 1 ≤ length values → getD values 0 0 < 2 ^ 32 → timesIn levels s 1 ≡ gives (getD values 0 0)
 root-time levels s values known h fits =
     let f : 1 / 2 ≡ 0 = omega arith in
     rw (time-step (fetchedAt levels s) 1 (omega arith), f, time-above (fetchedAt levels s), known 1 (omega arith) h, zero-add, lt-ltb (getD values 0 0) 4294967296 fits)

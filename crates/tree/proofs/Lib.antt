@@ -17,6 +17,7 @@ pub mod Listings
 pub mod NodeFetches
 pub mod NodeTimes
 pub mod Orders
+pub mod Outcomes
 pub mod Paths
 pub mod Preorder
 pub mod Promises

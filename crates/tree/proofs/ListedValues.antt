@@ -21,16 +21,19 @@ use Rattle.tree.specs.declared.nodes.Levels.{Levels}
 use Rattle.tree.specs.Shape.{height, rank}
 use Rattle.tree.specs.Stored.{timeOf, timeAbove, difference, stored, storedValues}
 use Rattle.tree.specs.Levels.{firstOf, countOf, codeOf, partOf, levelValues, fetchedAt}
-use Rattle.tree.specs.Times.{Time, at, refused, under, known, timesIn}
-use Rattle.tree.specs.Walks.{Answer, found, stopped, unless, met, toward, lastOf, accessAnswer}
-use Rattle.tree.specs.Listing.{nowhere, accesses, timeThen, timesFrom, stopOr, stopFrom, timesAll, stopAll}
+use Rattle.tree.specs.declared.walking.Found.{Found}
+use Rattle.tree.specs.Outcomes.{Outcome, gives, refuses, follow, after, known, verdict}
+use Rattle.tree.specs.Times.{under, timesIn}
+use Rattle.tree.specs.Walks.{met, toward, lastOf, accessAnswer}
+use Rattle.tree.specs.Listing.{nowhere, at, accesses, timesFrom, stopFrom, timesAll, stopAll}
 use Rattle.tree.specs.DecodedLevels.{decodedAt}
 use Rattle.tree.specs.Chosen.{chosenBy, levelChosen}
 use Rattle.tree.specs.Promises.{ChosenStored}
 use Rattle.tree.proofs.Heights.{height-is, height-above}
 use Rattle.tree.proofs.NodeTimes.{time-step}
 use Rattle.tree.proofs.Ranks.{rank-lt}
-use Rattle.tree.proofs.Walks.{met-told}
+use Rattle.tree.proofs.Outcomes.{gives-refuses}
+use Rattle.tree.proofs.Walks.{met-gives}
 use Rattle.tree.proofs.Listings.{times-end}
 use Rattle.tree.proofs.Paths.{toward-rank, last-fromRoot, fromRoot-length}
 use Rattle.tree.proofs.Contents.{above-at}
@@ -39,38 +42,34 @@ use Rattle.tree.proofs.LevelsChosen.{chosen-each}
 
 -- ---- what access finds at each position
 
--- an answer that is found
-pub record FoundAt (answer : ℕ → Answer) (i t : ℕ) : Type 0 where
-  pub nodes : ℕ
-  pub is : answer i ≡ found t nodes
-
-found-from : (answer : ℕ → Answer) (k i j : ℕ) → nowhere ≡ stopFrom answer k i → j < k → FoundAt answer (i + j) (getD (timesFrom answer k i) j 0)
+found-from : (answer : ℕ → Outcome Found) (k i j : ℕ) → nowhere ≡ stopFrom answer k i → j < k
+    → (f : Found) × (answer (i + j) ≡ gives f) × (getD (timesFrom answer k i) j 0 ≡ f .value)
 unfolding timesFrom stopFrom
 found-from answer zero i j e h = absurd (omega arith)
-found-from answer (suc k) i j e h = go (answer i) refl e j h (λ j′. found-from answer k (suc i) j′)
+found-from answer (suc k) i j e h = go (answer i) refl e j h (found-from answer k (suc i))
   where
-    go : (x : Answer) → answer i ≡ x → nowhere ≡ stopOr i x (stopFrom answer k (suc i)) → (j : ℕ) → j < suc k
-        → ((j′ : ℕ) → nowhere ≡ stopFrom answer k (suc i) → j′ < k → FoundAt answer (suc i + j′) (getD (timesFrom answer k (suc i)) j′ 0))
-        → FoundAt answer (i + j) (getD (timeThen x (timesFrom answer k (suc i))) j 0)
-    go (found t m) p q zero l r = record { nodes = m; is = rw (add-zero i) p }
-    go (found t m) p q (suc j) l r = let s : suc i + j ≡ i + suc j = omega arith in rw s at (r j q (omega arith))
-    go (stopped x c) p q j l r = absurd (let z : _≡_ {A = ℕ} 0 1 = cc in omega arith)
+    go : (x : Outcome Found) → answer i ≡ x → nowhere ≡ follow (at i) x (λ f. stopFrom answer k (suc i)) → (j : ℕ) → j < suc k
+        → ((j : ℕ) → nowhere ≡ stopFrom answer k (suc i) → j < k → (f : Found) × (answer (suc i + j) ≡ gives f) × (getD (timesFrom answer k (suc i)) j 0 ≡ f .value))
+        → (f : Found) × (answer (i + j) ≡ gives f) × (getD (follow (λ r c. []) x (λ f. f .value ∷ timesFrom answer k (suc i))) j 0 ≡ f .value)
+    go (gives f) p q zero l r = (f, rw (add-zero i) p, refl)
+    go (gives f) p q (suc j) l r = let s : suc i + j ≡ i + suc j = omega arith in rw s at (r j q (omega arith))
+    go (refuses x c) p q j l r = absurd (let z : _≡_ {A = ℕ} 0 1 = cc in omega arith)
 
--- the last node of a walk that ends with an answer has a time
-met-last : (time : ℕ → Time) (d x k t m : ℕ) (vs : List ℕ) → 1 ≤ length vs → met time (found x k) vs ≡ found t m → time (lastOf d vs) ≡ at (known (time (lastOf d vs)))
-unfolding met lastOf
-met-last time d x k t m [] h e = absurd (omega arith)
-met-last time d x k t m (v ∷ []) h e = go (time v) e
+-- the last node of a walk that is not refused has a time
+met-last : {A : Type 0} (time : ℕ → Outcome ℕ) (d : ℕ) (a b : A) (vs : List ℕ) → 1 ≤ length vs → met time vs a ≡ gives b → time (lastOf d vs) ≡ gives (known (time (lastOf d vs)))
+unfolding met verdict lastOf
+met-last time d a b [] h e = absurd (omega arith)
+met-last time d a b (v ∷ []) h e = go (time v) e
   where
-    go : (y : Time) → unless y (found x k) ≡ found t m → y ≡ at (known y)
-    go (at z) q = refl
-    go (refused r u) q = absurd (let z : _≡_ {A = ℕ} 0 1 = cc in omega arith)
-met-last time d x k t m (v ∷ w ∷ vs) h e = go (time v) e (met-last time v x k t m (w ∷ vs) (omega arith))
+    go : (y : Outcome ℕ) → after y (λ _. gives a) ≡ gives b → y ≡ gives (known y)
+    go (gives z) q = refl
+    go (refuses r u) q = absurd (gives-refuses (sym q))
+met-last time d a b (v ∷ w ∷ vs) h e = go (time v) e (met-last time v a b (w ∷ vs) (omega arith))
   where
-    go : (y : Time) → unless y (met time (found x k) (w ∷ vs)) ≡ found t m
-        → (met time (found x k) (w ∷ vs) ≡ found t m → time (lastOf w vs) ≡ at (known (time (lastOf w vs)))) → time (lastOf w vs) ≡ at (known (time (lastOf w vs)))
-    go (at z) q r = r q
-    go (refused a b) q r = absurd (let z : _≡_ {A = ℕ} 0 1 = cc in omega arith)
+    go : (y : Outcome ℕ) → after y (λ _. met time (w ∷ vs) a) ≡ gives b
+        → (met time (w ∷ vs) a ≡ gives b → time (lastOf w vs) ≡ gives (known (time (lastOf w vs)))) → time (lastOf w vs) ≡ gives (known (time (lastOf w vs)))
+    go (gives z) q r = r q
+    go (refuses x c) q r = absurd (gives-refuses (sym q))
 
 -- ---- the nodes
 
@@ -81,35 +80,35 @@ module _ (levels : Levels) (s : List ℕ) (whole : nowhere ≡ stopAll levels s)
   list-length : length list ≡ levels .pins
   list-length = rw (zero-add (length list)) at (times-end (accesses levels s) (levels .pins) 0) ∙ rw (← whole) (zero-add (levels .pins))
 
-  node-time : (v : ℕ) → 1 ≤ v → v ≤ levels .pins → timesIn levels s v ≡ at (timeOf list v)
+  node-time : (v : ℕ) → 1 ≤ v → v ≤ levels .pins → timesIn levels s v ≡ gives (timeOf list v)
   unfolding timeOf accessAnswer
   node-time v h k =
       let n = levels .pins in
       let time = timesIn levels s in
       let i = rank n v in
-      let f = found-from (accesses levels s) n 0 i whole (rank-lt n v h k) in
+      let (f, e, t) = found-from (accesses levels s) n 0 i whole (rank-lt n v h k) in
+      let is : accessAnswer n time i ≡ gives f = rw (zero-add i) at e in
       let last : lastOf 0 (toward n i) ≡ v = ap (lastOf 0) (toward-rank n v h k) ∙ last-fromRoot v h in
-      let e : accessAnswer n time i ≡ found (getD list i 0) (f .nodes) = rw (zero-add i) at (f .is) in
       let some : 1 ≤ length (toward n i) = rw (toward-rank n v h k, fromRoot-length v) (height-above v 0 h) in
-      let own = rw last at (met-last time 0 (known (time (lastOf 0 (toward n i)))) (length (toward n i)) (getD list i 0) (f .nodes) (toward n i) some e) in
-      let same : getD list i 0 ≡ known (time v) = rw last at (met-told time (toward n i) e .0) in
-      rw list-length (own ∙ ap at (sym same))
+      let own = rw last at (met-last time 0 _ f (toward n i) some is) in
+      let same : known (time v) ≡ f .value = rw last at (ap (λ (g : Found). g .value) (met-gives time (toward n i) _ f is)) in
+      rw list-length (own ∙ ap gives (same ∙ sym t))
 
   -- what is fetched for a node follows from its time and its parent's
-  node-value : (v p t : ℕ) (x : Fetched) → under v (at p) x ≡ at t → x ≡ value (difference v p t)
+  node-value : (v p t : ℕ) (x : Fetched) → under v (gives p) x ≡ gives t → x ≡ value (difference v p t)
   node-value v p t outside e = absurd (let z : _≡_ {A = ℕ} 0 1 = cc in omega arith)
   node-value v p t (value d) e = elim (ℕ-discrete (v % 2) 0) [
     | yes q ↦ rw (eq-eqb (v % 2) 0 q) (even (decLt p d) (rw (eq-eqb (v % 2) 0 q) at e))
     | no q ↦ rw (ne-eqb (v % 2) 0 q) (odd (decLt (p + d) (2 ^ 32)) (rw (ne-eqb (v % 2) 0 q) at e))
   ]
     where
-      even : Dec (p < d) → cond (ltb p d) (refused 10 v) (at (p - d)) ≡ at t → value d ≡ value (p - t)
-      even (yes h) f = let g : refused 10 v ≡ at t = rw (lt-ltb p d h) at f in absurd (let z : _≡_ {A = ℕ} 0 1 = cc in omega arith)
-      even (no h) f = let g : at (p - d) ≡ at t = rw (le-ltb p d (omega arith)) at f in let t-is : p - d ≡ t = ap known g in ap value (omega arith)
+      even : Dec (p < d) → cond (ltb p d) (refuses 10 v) (gives (p - d)) ≡ gives t → value d ≡ value (p - t)
+      even (yes h) f = let g : refuses 10 v ≡ gives t = rw (lt-ltb p d h) at f in absurd (let z : _≡_ {A = ℕ} 0 1 = cc in omega arith)
+      even (no h) f = let g : gives (p - d) ≡ gives t = rw (le-ltb p d (omega arith)) at f in let t-is : p - d ≡ t = ap known g in ap value (omega arith)
 
-      odd : Dec (p + d < 2 ^ 32) → cond (ltb (p + d) (2 ^ 32)) (at (p + d)) (refused 10 v) ≡ at t → value d ≡ value (t - p)
-      odd (yes h) f = let g : at (p + d) ≡ at t = rw (lt-ltb (p + d) (2 ^ 32) h) at f in let t-is : p + d ≡ t = ap known g in ap value (omega arith)
-      odd (no h) f = let g : refused 10 v ≡ at t = rw (le-ltb (p + d) (2 ^ 32) (omega arith)) at f in absurd (let z : _≡_ {A = ℕ} 0 1 = cc in omega arith)
+      odd : Dec (p + d < 2 ^ 32) → cond (ltb (p + d) (2 ^ 32)) (gives (p + d)) (refuses 10 v) ≡ gives t → value d ≡ value (t - p)
+      odd (yes h) f = let g : gives (p + d) ≡ gives t = rw (lt-ltb (p + d) (2 ^ 32) h) at f in let t-is : p + d ≡ t = ap known g in ap value (omega arith)
+      odd (no h) f = let g : refuses 10 v ≡ gives t = rw (le-ltb (p + d) (2 ^ 32) (omega arith)) at f in absurd (let z : _≡_ {A = ℕ} 0 1 = cc in omega arith)
 
   listed-value : (v : ℕ) → 1 ≤ v → v ≤ levels .pins → fetchedAt levels s v ≡ value (stored list v)
   unfolding stored

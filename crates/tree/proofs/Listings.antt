@@ -10,10 +10,12 @@ use borrow.Author.Tests.{lt-ltb, le-ltb}
 use Rattle.tree.specs.declared.nodes.Levels.{Levels}
 use Rattle.tree.specs.Shape.{rootPlace, childOf, sideOf, rank}
 use Rattle.tree.specs.Stored.{timeOf}
-use Rattle.tree.specs.Times.{at, refused, timesIn}
-use Rattle.tree.specs.Walks.{Answer, found, stopped, toward, accessAnswer}
+use Rattle.tree.specs.declared.walking.Found.{Found}
+use Rattle.tree.specs.Outcomes.{Outcome, gives, refuses, follow}
+use Rattle.tree.specs.Times.{timesIn}
+use Rattle.tree.specs.Walks.{found, toward, accessAnswer}
 use Rattle.tree.specs.Buffers.{replaced}
-use Rattle.tree.specs.Listing.{Stop, nowhere, at as stop-at, accesses, timeThen, timesFrom, stopOr, stopFrom, endOf, timesAll, stopAll}
+use Rattle.tree.specs.Listing.{Stop, nowhere, at as stop-at, accesses, timesFrom, stopFrom, endOf, timesAll, stopAll}
 use Rattle.tree.specs.Standing.{Stands, Reaches}
 use Rattle.tree.specs.Merged.{KnownRanks}
 use Rattle.tree.proofs.Buffers.{replaced-around}
@@ -29,7 +31,7 @@ abbrev unlessAt : Stop → List ℕ → List ℕ
 unlessAt nowhere later = later
 unlessAt (stop-at i r c) later = []
 
-module _ (answer : ℕ → Answer) where
+module _ (answer : ℕ → Outcome Found) where
   pub times-end : (k i : ℕ) → i + length (timesFrom answer k i) ≡ endOf (stopFrom answer k i) (i + k)
   unfolding timesFrom stopFrom
   times-end zero i = refl
@@ -39,9 +41,10 @@ module _ (answer : ℕ → Answer) where
       at-end nowhere = omega arith
       at-end (stop-at j r c) = refl
 
-      go : (x : Answer) (ts : List ℕ) (z : Stop) → suc i + length ts ≡ endOf z (suc i + k) → i + length (timeThen x ts) ≡ endOf (stopOr i x z) (i + suc k)
-      go (found t j) ts z e = let f : i + suc (length ts) ≡ suc i + length ts = omega arith in f ∙ e ∙ at-end z
-      go (stopped r c) ts z e = omega arith
+      go : (x : Outcome Found) (ts : List ℕ) (z : Stop) → suc i + length ts ≡ endOf z (suc i + k)
+          → i + length (follow (λ r c. []) x (λ f. f .value ∷ ts)) ≡ endOf (follow (stop-at i) x (λ f. z)) (i + suc k)
+      go (gives f) ts z e = let one : i + suc (length ts) ≡ suc i + length ts = omega arith in one ∙ e ∙ at-end z
+      go (refuses r c) ts z e = omega arith
 
   -- two stretches one after the other
   listed-both : (a b i : ℕ) → (stopFrom answer (b + a) i ≡ orLater (stopFrom answer a i) (stopFrom answer b (i + a)))
@@ -52,47 +55,49 @@ module _ (answer : ℕ → Answer) where
       let e : suc i + a ≡ i + suc a = omega arith in
       rw (add-suc b a) (go (answer i) _ (stopFrom answer a (suc i)) _ (timesFrom answer a (suc i)) (rw e at (listed-both a b (suc i))))
     where
-      go : (x : Answer) (z first : Stop) (all ts : List ℕ)
+      go : (x : Outcome Found) (z first : Stop) (all ts : List ℕ)
           → (z ≡ orLater first (stopFrom answer b (i + suc a))) × (all ≡ ts ++ unlessAt first (timesFrom answer b (i + suc a)))
-          → (stopOr i x z ≡ orLater (stopOr i x first) (stopFrom answer b (i + suc a))) × (timeThen x all ≡ timeThen x ts ++ unlessAt (stopOr i x first) (timesFrom answer b (i + suc a)))
-      go (found t j) z first all ts e = (e .0, ap (λ (l : List ℕ). t ∷ l) (e .1))
-      go (stopped r c) z first all ts e = (refl, refl)
+          → let stopped = follow (stop-at i) x (λ f. first) in
+          (follow (stop-at i) x (λ f. z) ≡ orLater stopped (stopFrom answer b (i + suc a)))
+          × (follow (λ r c. []) x (λ f. f .value ∷ all) ≡ follow (λ r c. []) x (λ f. f .value ∷ ts) ++ unlessAt stopped (timesFrom answer b (i + suc a)))
+      go (gives f) z first all ts e = (e .0, ap (λ (l : List ℕ). f .value ∷ l) (e .1))
+      go (refuses r c) z first all ts e = (refl, refl)
 
   -- a position between them that has a time
-  listed-around : (a b i x k : ℕ) → answer (i + a) ≡ found x k → (stopFrom answer (suc b + a) i ≡ orLater (stopFrom answer a i) (stopFrom answer b (suc (i + a))))
+  listed-around : (a b i x k : ℕ) → answer (i + a) ≡ gives (found x k) → (stopFrom answer (suc b + a) i ≡ orLater (stopFrom answer a i) (stopFrom answer b (suc (i + a))))
       × (timesFrom answer (suc b + a) i ≡ timesFrom answer a i ++ unlessAt (stopFrom answer a i) (x ∷ timesFrom answer b (suc (i + a))))
   unfolding timesFrom stopFrom
   listed-around a b i x k e = rw e at (listed-both a (suc b) i)
 
   -- a refusal at the first position
-  listed-here : (k i r c : ℕ) → 1 ≤ k → answer i ≡ stopped r c → (stopFrom answer k i ≡ stop-at i r c) × (timesFrom answer k i ≡ [])
+  listed-here : (k i r c : ℕ) → 1 ≤ k → answer i ≡ refuses r c → (stopFrom answer k i ≡ stop-at i r c) × (timesFrom answer k i ≡ [])
   unfolding timesFrom stopFrom
   listed-here zero i r c h e = absurd (omega arith)
   listed-here (suc k) i r c h e = rw e (refl, refl)
 
   -- where access finds the times of a list
-  times-found : (xs : List ℕ) (i : ℕ) (nodes : ℕ → ℕ) → ((j : ℕ) → j < length xs → answer (i + j) ≡ found (getD xs j 0) (nodes j))
+  times-found : (xs : List ℕ) (i : ℕ) (nodes : ℕ → ℕ) → ((j : ℕ) → j < length xs → answer (i + j) ≡ gives (found (getD xs j 0) (nodes j)))
       → (timesFrom answer (length xs) i ≡ xs) × (stopFrom answer (length xs) i ≡ nowhere)
   unfolding timesFrom stopFrom
   times-found [] i nodes h = (refl, refl)
   times-found (x ∷ xs) i nodes h =
-      let e : answer i ≡ found x (nodes 0) = rw (add-zero i) at (h 0 (omega arith)) in
+      let e : answer i ≡ gives (found x (nodes 0)) = rw (add-zero i) at (h 0 (omega arith)) in
       let later = times-found xs (suc i) (λ j. nodes (suc j)) (λ j k. let f : suc i + j ≡ i + suc j = omega arith in rw f (h (suc j) (omega arith))) in
       rw (e, later .0, later .1) (refl, refl)
 
 -- where every node of the list's tree has its time
-pub times-known : (levels : Levels) (s xs : List ℕ) → levels .pins ≡ length xs → ((v : ℕ) → 1 ≤ v → v ≤ length xs → timesIn levels s v ≡ at (timeOf xs v))
-    → (timesAll levels s ≡ xs) × (stopAll levels s ≡ nowhere)
-times-known levels s xs pins fine =
-    subst (λ (k : ℕ). (timesFrom (accesses levels s) k 0 ≡ xs) × (stopFrom (accesses levels s) k 0 ≡ nowhere)) (sym pins)
-    (times-found (accesses levels s) xs 0 (λ j. length (toward (length xs) j)) (λ j h.
-    rw (zero-add j) (ap (λ (n : ℕ). accessAnswer n (timesIn levels s) j) pins ∙ access-answer xs (timesIn levels s) fine j h)))
+pub times-known : (xs : List ℕ) (time : ℕ → Outcome ℕ) → ((v : ℕ) → 1 ≤ v → v ≤ length xs → time v ≡ gives (timeOf xs v))
+    → let answer = accessAnswer (length xs) time in (timesFrom answer (length xs) 0 ≡ xs) × (stopFrom answer (length xs) 0 ≡ nowhere)
+times-known xs time fine =
+    times-found (accessAnswer (length xs) time) xs 0 (λ j. length (toward (length xs) j)) (λ j h. rw (zero-add j) (access-answer xs time fine j h))
 
 -- where they stand at their ranks
 pub ranks-known : (levels : Levels) (s list : List ℕ) → levels .pins ≡ length list → KnownRanks levels s (levels .pins) list
     → (timesAll levels s ≡ list) × (stopAll levels s ≡ nowhere)
 unfolding timeOf
-ranks-known levels s list pins known = times-known levels s list pins (λ v a b. rw (← pins) (known v a (rw pins b)))
+ranks-known levels s list pins known =
+    subst (λ (k : ℕ). let answer = accessAnswer k (timesIn levels s) in (timesFrom answer k 0 ≡ list) × (stopFrom answer k 0 ≡ nowhere)) (sym pins)
+    (times-known list (timesIn levels s) (λ v a b. rw (← pins) (known v a (rw pins b))))
 
 -- ---- at a node
 
@@ -101,13 +106,13 @@ module _ {levels : Levels} {s : List ℕ} {v depth start pins above : ℕ}
   node : v ≤ levels .pins
   node = stands-node w some
 
-  pub listed-refused : (r u : ℕ) → timesIn levels s v ≡ refused r u
+  pub listed-refused : (r u : ℕ) → timesIn levels s v ≡ refuses r u
       → (stopFrom (accesses levels s) pins start ≡ stop-at start r u) × (timesFrom (accesses levels s) pins start ≡ [])
   listed-refused r u e =
       listed-here (accesses levels s) pins start r u some
       (sym (reach start (omega arith) (omega arith)) ∙ access-refused (levels .pins) (timesIn levels s) start depth v r u (w .one) node e)
 
-  module _ (x : ℕ) (e : timesIn levels s v ≡ at x) (place : ℕ) (p : place ≡ rootPlace pins) where
+  module _ (x : ℕ) (e : timesIn levels s v ≡ gives x) (place : ℕ) (p : place ≡ rootPlace pins) where
     place-is : (1 ≤ place) × (place ≤ pins)
     place-is = rw p (stands-place w node)
 
@@ -141,7 +146,7 @@ module _ {levels : Levels} {s : List ℕ} {v depth start pins above : ℕ}
       next : suc (start + (place - 1)) ≡ start + place
       next = omega (arith, place-is)
 
-      time-here : accesses levels s (start + (place - 1)) ≡ found x (depth + 1)
+      time-here : accesses levels s (start + (place - 1)) ≡ gives (found x (depth + 1))
       time-here =
           sym (reach (start + (place - 1)) (omega arith) (omega (arith, place-is)))
           ∙ access-end (levels .pins) (timesIn levels s) (start + (place - 1)) depth v x (w .one) node e rank-is

@@ -12,13 +12,13 @@ use borrow.Author.Tests.{lt-ltb, le-ltb, eq-eqb, ne-eqb}
 use Rattle.tree.specs.Shape.{height, childOf, rank}
 use Rattle.tree.specs.Lists.{ordered, smaller}
 use Rattle.tree.specs.Stored.{timeOf}
-use Rattle.tree.specs.Times.{Time, at, known}
+use Rattle.tree.specs.Outcomes.{Outcome, gives, known}
 use Rattle.tree.specs.Walks.{walk, found, met, towardFrom, toward, lastOf, accessAnswer, fromRootIn, fromRoot}
 use Rattle.tree.specs.Walks.{never, isBelow, searchNodes, remember, position, keptFrom, targetFrom, searchAnswer, path}
 use Rattle.tree.specs.Filled.{Under, here, below}
 use Rattle.tree.proofs.Heights.{height-zero, height-step}
 use Rattle.tree.proofs.Orders.{smaller-le, smaller-first}
-use Rattle.tree.proofs.Walks.{child-bounds, parent-of, walk-out, walk-on, toward-on, walk-same, met-none}
+use Rattle.tree.proofs.Walks.{child-bounds, parent-of, walk-out, walk-on, toward-on, walk-same, walk-among, met-none}
 use Rattle.tree.proofs.Inorder.{Tree, out, node, tree}
 use Rattle.tree.proofs.Ranks.{under-root, under-rank, under-out, rank-lt, rank-found}
 
@@ -103,8 +103,8 @@ downTo-fromRoot (suc k) v after =
     downTo-fromRoot k (v / 2) (v ∷ after) ∙ sym (ap (λ (us : List ℕ). us ++ after) (downTo-more k v) ∙ append-assoc (downTo (v / 2) k) (v ∷ []) after)
 
 -- an access opens these
-pub access-down : (n v : ℕ) (time : ℕ → Time) → 1 ≤ v → v ≤ n
-    → accessAnswer n time (rank n v) ≡ met time (found (known (time v)) (height v)) (downTo v (height v))
+pub access-down : (n v : ℕ) (time : ℕ → Outcome ℕ) → 1 ≤ v → v ≤ n
+    → accessAnswer n time (rank n v) ≡ met time (downTo v (height v)) (found (known (time v)) (height v))
 unfolding accessAnswer
 access-down n v time h k =
     rw (toward-rank n v h k, last-fromRoot v h, fromRoot-length v, downTo-fromRoot (height v) v [], append-nil (downTo v (height v)))
@@ -155,20 +155,20 @@ cuts-below xs t o v h k = smaller-first t xs o (rank (length xs) v) (rank-lt (le
 
 -- ---- the answers, where no node's time is refused
 
-module _ (xs : List ℕ) (time : ℕ → Time) (fine : (v : ℕ) → 1 ≤ v → v ≤ length xs → time v ≡ at (timeOf xs v)) where
+module _ (xs : List ℕ) (time : ℕ → Outcome ℕ) (fine : (v : ℕ) → 1 ≤ v → v ≤ length xs → time v ≡ gives (timeOf xs v)) where
   below-same : (t v : ℕ) → 1 ≤ v → v ≤ length xs → isBelow time t v ≡ ltb (timeOf xs v) t
-  below-same t v h k = ap (λ (x : Time). ltb (known x) t) (fine v h k)
+  below-same t v h k = ap (λ (x : Outcome ℕ). ltb (known x) t) (fine v h k)
 
   -- the last node on the way to rank i is the one of that rank
-  pub access-answer : (i : ℕ) → i < length xs → accessAnswer (length xs) time i ≡ found (getD xs i 0) (length (toward (length xs) i))
+  pub access-answer : (i : ℕ) → i < length xs → accessAnswer (length xs) time i ≡ gives (found (getD xs i 0) (length (toward (length xs) i)))
   unfolding accessAnswer toward timeOf
   access-answer i h =
       let n = length xs in
       let (v, one, k, r) = rank-found (tree n) i (omega arith) h in
       let last : lastOf 0 (toward n i) ≡ v = ap (λ (j : ℕ). lastOf 0 (toward n j)) (sym r) ∙ ap (lastOf 0) (toward-rank n v one k) ∙ last-fromRoot v one in
       let x : known (time (lastOf 0 (toward n i))) ≡ getD xs i 0 = rw last (ap known (fine v one k) ∙ ap (λ (j : ℕ). getD xs j 0) r) in
-      met-none n time (timeOf xs) fine (found (known (time (lastOf 0 (toward n i)))) (length (toward n i))) (λ u. eqb (rank n u) i) (λ u. ltb (rank n u) i) 1 (le-refl 1)
-      ∙ ap (λ (y : ℕ). found y (length (toward n i))) x
+      met-none n time (timeOf xs) fine _ (toward n i) (walk-among n (λ u. eqb (rank n u) i) (λ u. ltb (rank n u) i) 1 (le-refl 1))
+      ∙ ap (λ (y : ℕ). gives (found y (length (toward n i)))) x
 
   pub search-path : (t : ℕ) → searchNodes (length xs) time t 1 ≡ path xs t
   unfolding path
@@ -182,10 +182,9 @@ module _ (xs : List ℕ) (time : ℕ → Time) (fine : (v : ℕ) → 1 ≤ v →
     pub search-position : position (length xs) (keptFrom (length xs) time t [] 1) ≡ smaller t xs
     search-position = search-under (length xs) (isBelow time t) (smaller t xs) search-cuts (tree (length xs)) (omega arith) (smaller-le t xs) [] refl
 
-    pub search-answer : searchAnswer (length xs) time t ≡ found (smaller t xs) (length (path xs t))
+    pub search-answer : searchAnswer (length xs) time t ≡ gives (found (smaller t xs) (length (path xs t)))
     unfolding targetFrom
     search-answer =
         let nodes = searchNodes (length xs) time t 1 in
-        let answer = found (position (length xs) (keptFrom (length xs) time t [] 1)) (0 + length nodes) in
-        met-none (length xs) time (timeOf xs) fine answer never (isBelow time t) 1 (le-refl 1)
-        ∙ ap₂ found search-position (zero-add (length nodes) ∙ ap length (search-path t))
+        met-none (length xs) time (timeOf xs) fine _ nodes (walk-among (length xs) never (isBelow time t) 1 (le-refl 1))
+        ∙ ap gives (ap₂ found search-position (zero-add (length nodes) ∙ ap length (search-path t)))

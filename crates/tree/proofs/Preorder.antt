@@ -1,21 +1,21 @@
 -- A sweep opens nodes in preorder, on any strip: a node comes before what lies under it, and what lies under its left child before its right
 -- child. So each node is opened later than the one before it, and on one level the numbers rise.
-use mathlib.Core.Path.{_≡_, refl, sym, _∙_}
+use mathlib.Core.Path.{_≡_, sym}
 use mathlib.Core.Bool.{Bool, true, false, cond}
 use mathlib.Core.List.{List, [], _∷_, _++_}
 use Prim.Native.Nat.{ℕ, zero, suc, _+_, _-_, _*_, _^_, _≤_, _<_}
-use native.Mathlib.Nat.{pow-succ', mul-le-mul-right, le-refl, zero-add}
+use native.Mathlib.Nat.{pow-succ', mul-le-mul-right, le-refl}
 use native.Mathlib.Decide.{decLt}
 use native.Mathlib.Omega.{arith}
-use lib.ListN.{length, getD, length-append}
+use lib.ListN.{length, getD}
 use lib.Pow.{pow-pos}
 use borrow.Author.Tests.{lt-ltb, le-ltb}
 use Rattle.tree.specs.Shape.{height, childOf}
-use Rattle.tree.specs.Times.{Time}
-use Rattle.tree.specs.Walks.{walkIn, walk, never, isBelow, remember, lastOf, searchNodes, Answer, found, stopped, position, keptFrom, targetFrom}
-use Rattle.tree.specs.Sweeps.{Sweep, positionThen, dropped, sweepFrom, sweep, sweepNodesFrom, sweepNodes}
+use Rattle.tree.specs.Outcomes.{Outcome}
+use Rattle.tree.specs.Walks.{walkIn, walk, never, isBelow, remember, lastOf}
+use Rattle.tree.specs.Sweeps.{dropped, legsFrom, opened, sweepNodes}
 use Rattle.tree.proofs.Heights.{height-mono}
-use Rattle.tree.proofs.Walks.{child-bounds, height-child, walk-out, Found, met-found}
+use Rattle.tree.proofs.Walks.{child-bounds, height-child, walk-out}
 
 -- the places under node v on the level below the last, of a tree of n pins: so many, from `first` on
 abbrev wide : ℕ → ℕ → ℕ
@@ -179,16 +179,16 @@ module _ (n : ℕ) (past : ℕ → Bool) where
       let w = walks (suc (height n) - height from) u from kept one b k in
       rising-join n u (walk n never past from) (later (remember past (walk n never past from) kept)) (w .rises) (rest _ _ (w .ends))
 
-opens : (n : ℕ) (time : ℕ → Time) (u from : ℕ) (kept ts : List ℕ) → Ends n u kept → Starts n u from kept → Rising n u (sweepNodesFrom n time from kept ts)
-unfolding sweepNodesFrom Rising
+opens : (n : ℕ) (time : ℕ → Outcome ℕ) (u from : ℕ) (kept ts : List ℕ) → Ends n u kept → Starts n u from kept → Rising n u (opened (legsFrom n time from kept ts))
+unfolding legsFrom opened Rising
 opens n time u from kept [] e s = tt
 opens n time u from kept (t ∷ ts) e s =
     let d = dropped (isBelow time t) from kept in
     let p = drops n (isBelow time t) u from (e .end) kept (e .inside) (e .under) s in
-    target-rises n (isBelow time t) u (d .from) (d .kept) (λ ks. sweepNodesFrom n time (suc n) ks ts) (p .0) (p .1)
+    target-rises n (isBelow time t) u (d .from) (d .kept) (λ ks. opened (legsFrom n time (suc n) ks ts)) (p .0) (p .1)
     (λ w ks x. opens n time w (suc n) ks ts x (nowhere (omega arith)))
 
-pub nodes-rise : (n : ℕ) (time : ℕ → Time) (ts : List ℕ) (i j : ℕ) → let vs = sweepNodes n time ts in
+pub nodes-rise : (n : ℕ) (time : ℕ → Outcome ℕ) (ts : List ℕ) (i j : ℕ) → let vs = sweepNodes n time ts in
     i < j → j < length vs → height (getD vs i 0) ≡ height (getD vs j 0) → getD vs i 0 < getD vs j 0
 unfolding first Under
 nodes-rise n time ts i j k h e = level-rises (rising-pairs n 0 (sweepNodes n time ts) (opens n time 0 1 [] ts begin root) i j k h) e
@@ -198,24 +198,3 @@ nodes-rise n time ts i j k h e = level-rises (rising-pairs n 0 (sweepNodes n tim
 
     root : Starts n 0 1 []
     root = there (le-refl 1) (sooner (omega (arith, some n 1))) tt
-
--- ---- their number
-
-counted-from : (n : ℕ) (time : ℕ → Time) (from : ℕ) (kept : List ℕ) (k : ℕ) (ts : List ℕ) (m : ℕ) → sweepFrom n time from kept k ts .answer ≡ found 0 m
-    → m ≡ k + length (sweepNodesFrom n time from kept ts)
-unfolding sweepFrom sweepNodesFrom targetFrom
-counted-from n time from kept k [] m e = let same : k ≡ m = cc in omega arith
-counted-from n time from kept k (t ∷ ts) m e =
-    let d = dropped (isBelow time t) from kept in
-    let nodes = searchNodes n time t (d .from) in
-    let ks = keptFrom n time t (d .kept) (d .from) in
-    go nodes (sweepNodesFrom n time (suc n) ks ts) (λ j. sweepFrom n time (suc n) ks j ts) (λ j. counted-from n time (suc n) ks j ts m)
-    (targetFrom n time t (d .kept) k (d .from)) (met-found (λ x j. j ≡ k + length nodes) time (position n ks) (k + length nodes) refl nodes) e
-  where
-    go : (nodes rest : List ℕ) (later : ℕ → Sweep) → ((j : ℕ) → later j .answer ≡ found 0 m → m ≡ j + length rest)
-        → (a : Answer) → Found (λ x j. j ≡ k + length nodes) a → positionThen a later .answer ≡ found 0 m → m ≡ k + length (nodes ++ rest)
-    go nodes rest later next (found p j) f h = rw (length-append nodes rest) (omega (arith, next j h))
-    go nodes rest later next (stopped r c) f h = let z : _≡_ {A = ℕ} 0 1 = cc in absurd (omega arith)
-
-pub nodes-counted : (n : ℕ) (time : ℕ → Time) (ts : List ℕ) (m : ℕ) → sweep n time ts .answer ≡ found 0 m → m ≡ length (sweepNodes n time ts)
-nodes-counted n time ts m e = counted-from n time 1 [] 0 ts m e ∙ zero-add (length (sweepNodes n time ts))

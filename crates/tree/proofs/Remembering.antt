@@ -15,7 +15,8 @@ use Rattle.tree.specs.declared.nodes.Levels.{Levels}
 use Rattle.tree.specs.declared.targets.Progress.{Progress}
 use Rattle.tree.specs.Shape.{height, childOf}
 use Rattle.tree.specs.Levels.{Fits}
-use Rattle.tree.specs.Times.{at, timesIn}
+use Rattle.tree.specs.Outcomes.{gives}
+use Rattle.tree.specs.Times.{timesIn}
 use Rattle.tree.specs.Walks.{keptFrom, targetFrom}
 use Rattle.tree.specs.Remembering.{entries, Place, Entry, GoesOn, answerOn, keptOn, Comes}
 use Rattle.tree.proofs.Heights.{height-mono, height-above, height-step}
@@ -37,7 +38,7 @@ entries-added xs c v h = rw (add-one c, getD-set-same xs c v 0 h, entries-set xs
 -- ---- one step down
 
 -- where a sweep stands that leaves node v, whose time is x, by a side; to the left the node is remembered
-pub place-side : {levels : Levels} {s kept : List ℕ} {i v above x : ℕ} → Place levels s kept i v above → v ≤ levels .pins → timesIn levels s v ≡ at x
+pub place-side : {levels : Levels} {s kept : List ℕ} {i v above x : ℕ} → Place levels s kept i v above → v ≤ levels .pins → timesIn levels s v ≡ gives x
     → (right : Bool) (j : ℕ) → j ≤ i + 1 → Place levels s (cond right kept (v ∷ kept)) j (childOf right v) x
 place-side {levels} {s} {kept} {i} {v} {above} {x} p l e right j h =
     let one = p .stands .one in
@@ -77,7 +78,7 @@ module _ {levels : Levels} {s nodes times : List ℕ} {p : Progress} (g : GoesOn
 
 -- a target's step from node v, whose time is x, to the child that the comparison tells
 module _ {levels : Levels} {s nodes₀ nodes times : List ℕ} {from p : Progress} (t : ℕ) (m : Comes levels s t nodes₀ from nodes times p) (f : Fits levels s)
-    (l : p .v ≤ levels .pins) {x : ℕ} (e : timesIn levels s (p .v) ≡ at x) where
+    (l : p .v ≤ levels .pins) {x : ℕ} (e : timesIn levels s (p .v) ≡ gives x) where
   abbrev n : ℕ
   n = levels .pins
 

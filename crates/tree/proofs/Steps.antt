@@ -13,8 +13,10 @@ use Rattle.tree.specs.declared.shape.Stretch.{Stretch}
 use Rattle.tree.specs.declared.nodes.Levels.{Levels}
 use Rattle.tree.specs.Shape.{height, rootPlace, childOf, sideOf, rank}
 use Rattle.tree.specs.Levels.{fetchedAt, Fits}
-use Rattle.tree.specs.Times.{Time, at, refused, timeTold, under, known, timesIn}
-use Rattle.tree.specs.Walks.{Answer, found, stopped, met, towardFrom, toward, lastOf, accessAnswer, isBelow, searchNodes, remember, position, keptFrom, targetFrom}
+use Rattle.tree.specs.declared.walking.Found.{Found}
+use Rattle.tree.specs.Outcomes.{Outcome, gives, refuses, known, verdict}
+use Rattle.tree.specs.Times.{timeTold, under, timesIn}
+use Rattle.tree.specs.Walks.{found, met, towardFrom, toward, lastOf, accessAnswer, isBelow, searchNodes, remember, position, keptFrom, targetFrom}
 use Rattle.tree.specs.Standing.{Stands, accessFrom}
 use Rattle.tree.proofs.Heights.{height-is}
 use Rattle.tree.proofs.Stretches.{stretch-root, stretch-child, side-in, pins-of-node, node-of-pins, no-pins, place-some, rank-is}
@@ -64,13 +66,13 @@ module _ {levels : Levels} {s : List ℕ} {v depth : ℕ} {here : Stretch} {abov
   stands-level f k = level-fits f (w .low) k
 
   -- what opening the node tells is its time
-  pub stands-told : (told : ℕ) → timeTold v told ≡ under v (at above) (fetchedAt levels s v) → timesIn levels s v ≡ timeTold v told
+  pub stands-told : (told : ℕ) → timeTold v told ≡ under v (gives above) (fetchedAt levels s v) → timesIn levels s v ≡ timeTold v told
   stands-told told e = time-step (fetchedAt levels s) v (w .one) ∙ rw (w .parent) (sym e)
 
-  pub stands-time : {told : ℕ} → timeTold v told ≡ under v (at above) (fetchedAt levels s v) → told < 2 ^ 32 → timesIn levels s v ≡ at told
+  pub stands-time : {told : ℕ} → timeTold v told ≡ under v (gives above) (fetchedAt levels s v) → told < 2 ^ 32 → timesIn levels s v ≡ gives told
   stands-time {told} e h = stands-told told e ∙ told-time v told h
 
-  pub stands-child : (right : Bool) (t : ℕ) → v ≤ levels .pins → timesIn levels s v ≡ at t
+  pub stands-child : (right : Bool) (t : ℕ) → v ≤ levels .pins → timesIn levels s v ≡ gives t
       → Stands levels s (childOf right v) (depth + 1) (sideOf right here) t
   stands-child right t k e =
       let i = side-in right here (stands-pins k) in
@@ -86,55 +88,55 @@ module _ {levels : Levels} {s : List ℕ} {v depth : ℕ} {here : Stretch} {abov
 
 -- ---- a target
 
-module _ (n : ℕ) (time : ℕ → Time) (t : ℕ) where
+module _ (n : ℕ) (time : ℕ → Outcome ℕ) (t : ℕ) where
   pub kept-end : (kept : List ℕ) (v : ℕ) → n < v → keptFrom n time t kept v ≡ kept
   unfolding remember
   kept-end kept v h = rw (walk-out n _ (isBelow time t) v h)
 
-  pub target-end : (kept : List ℕ) (k v : ℕ) → n < v → targetFrom n time t kept k v ≡ found (position n kept) k
-  unfolding targetFrom remember met
-  target-end kept k v h = rw (walk-out n _ (isBelow time t) v h) (ap (found (position n kept)) (omega arith))
+  pub target-end : (kept : List ℕ) (k v : ℕ) → n < v → targetFrom n time t kept k v ≡ gives (found (position n kept) k)
+  unfolding targetFrom remember met verdict
+  target-end kept k v h = rw (walk-out n _ (isBelow time t) v h) (ap (λ (j : ℕ). gives (found (position n kept) j)) (omega arith))
 
-  pub target-refused : (kept : List ℕ) (k v r u : ℕ) → 1 ≤ v → v ≤ n → time v ≡ refused r u → targetFrom n time t kept k v ≡ stopped r u
+  pub target-refused : (kept : List ℕ) (k v r u : ℕ) → 1 ≤ v → v ≤ n → time v ≡ refuses r u → targetFrom n time t kept k v ≡ refuses r u
   unfolding targetFrom
-  target-refused kept k v r u h l e = rw (walk-on n _ (isBelow time t) v h l) (met-refused time _ v r u _ e)
+  target-refused kept k v r u h l e = rw (walk-on n _ (isBelow time t) v h l) (met-refused time _ v _ e)
 
   -- at a node with time x
-  module _ (kept : List ℕ) (v x : ℕ) (h : 1 ≤ v) (l : v ≤ n) (e : time v ≡ at x) where
+  module _ (kept : List ℕ) (v x : ℕ) (h : 1 ≤ v) (l : v ≤ n) (e : time v ≡ gives x) where
     pub kept-step : keptFrom n time t kept v ≡ keptFrom n time t (cond (ltb x t) kept (v ∷ kept)) (childOf (ltb x t) v)
     unfolding remember
     kept-step =
         rw (walk-on n _ (isBelow time t) v h l)
-        (ap (λ (z : Time). keptFrom n time t (cond (ltb (known z) t) kept (v ∷ kept)) (childOf (ltb (known z) t) v)) e)
+        (ap (λ (z : Outcome ℕ). keptFrom n time t (cond (ltb (known z) t) kept (v ∷ kept)) (childOf (ltb (known z) t) v)) e)
 
     pub target-step : (k : ℕ) → targetFrom n time t kept k v ≡ targetFrom n time t (cond (ltb x t) kept (v ∷ kept)) (k + 1) (childOf (ltb x t) v)
     unfolding targetFrom
     target-step k =
-        let on : List ℕ → ℕ → ℕ → Answer = λ us p j. met time (found p j) us in
-        let later : Time → List ℕ = λ z. searchNodes n time t (childOf (ltb (known z) t) v) in
-        let m = length (later (at x)) in
+        let on : List ℕ → ℕ → ℕ → Outcome Found = λ us p j. met time us (found p j) in
+        let later : Outcome ℕ → List ℕ = λ z. searchNodes n time t (childOf (ltb (known z) t) v) in
+        let m = length (later (gives x)) in
         let j : k + suc m ≡ k + 1 + m = omega arith in
-        ap (λ (p : ℕ). met time (found p (k + length (searchNodes n time t v))) (searchNodes n time t v)) (ap (position n) kept-step)
+        ap (λ (p : ℕ). met time (searchNodes n time t v) (found p (k + length (searchNodes n time t v)))) (ap (position n) kept-step)
         ∙ rw (walk-on n _ (isBelow time t) v h l)
-        (met-fine time _ v x _ e ∙ ap (λ (z : Time). on (later z) (position n (keptFrom n time t (cond (ltb x t) kept (v ∷ kept)) (childOf (ltb x t) v))) (k + suc (length (later z)))) e
-        ∙ ap (on (later (at x)) _) j)
+        (met-fine time _ v _ e ∙ ap (λ (z : Outcome ℕ). on (later z) (position n (keptFrom n time t (cond (ltb x t) kept (v ∷ kept)) (childOf (ltb x t) v))) (k + suc (length (later z)))) e
+        ∙ ap (on (later (gives x)) _) j)
 
 -- ---- access
 
-module _ (n : ℕ) (time : ℕ → Time) (i : ℕ) where
+module _ (n : ℕ) (time : ℕ → Outcome ℕ) (i : ℕ) where
   pub access-start : accessAnswer n time i ≡ accessFrom n time i 0 1
   unfolding accessAnswer toward
   access-start = rw zero-add
 
-  pub access-refused : (k v r u : ℕ) → 1 ≤ v → v ≤ n → time v ≡ refused r u → accessFrom n time i k v ≡ stopped r u
-  access-refused k v r u h l e = rw (toward-on n i v h l) (met-refused time _ v r u _ e)
+  pub access-refused : (k v r u : ℕ) → 1 ≤ v → v ≤ n → time v ≡ refuses r u → accessFrom n time i k v ≡ refuses r u
+  access-refused k v r u h l e = rw (toward-on n i v h l) (met-refused time _ v _ e)
 
-  pub access-end : (k v x : ℕ) → 1 ≤ v → v ≤ n → time v ≡ at x → rank n v ≡ i → accessFrom n time i k v ≡ found x (k + 1)
-  unfolding lastOf met
+  pub access-end : (k v x : ℕ) → 1 ≤ v → v ≤ n → time v ≡ gives x → rank n v ≡ i → accessFrom n time i k v ≡ gives (found x (k + 1))
+  unfolding lastOf met verdict
   access-end k v x h l e r =
       rw (toward-on n i v h l, eq-eqb (rank n v) i r, e)
 
-  pub access-step : (k v x : ℕ) → 1 ≤ v → v ≤ n → time v ≡ at x → (rank n v ≡ i → ⊥)
+  pub access-step : (k v x : ℕ) → 1 ≤ v → v ≤ n → time v ≡ gives x → (rank n v ≡ i → ⊥)
       → accessFrom n time i k v ≡ accessFrom n time i (k + 1) (childOf (ltb (rank n v) i) v)
   unfolding lastOf
   access-step k v x h l e r =
@@ -142,4 +144,4 @@ module _ (n : ℕ) (time : ℕ → Time) (i : ℕ) where
       let nodes = towardFrom n i u in
       let j : k + suc (length nodes) ≡ k + 1 + length nodes = omega arith in
       rw (toward-on n i v h l, ne-eqb (rank n v) i r)
-      (met-fine time _ v x nodes e ∙ rw (j, parent-of (ltb (rank n v) i) v))
+      (met-fine time _ v nodes e ∙ rw (j, parent-of (ltb (rank n v) i) v))

@@ -10,18 +10,19 @@ use native.Mathlib.Omega.{arith}
 use lib.Dec.{T, eqb, ltb}
 use lib.ListN.{length}
 use borrow.Author.Tests.{lt-ltb, le-ltb}
+use Rattle.codes.specs.Bits.{sum}
 use Rattle.tree.specs.Shape.{height, childOf, rank}
 use Rattle.tree.specs.Lists.{ordered, smaller}
 use Rattle.tree.specs.Stored.{timeOf}
-use Rattle.tree.specs.Times.{Time, at}
-use Rattle.tree.specs.Walks.{walkIn, walk, Answer, found, never, isBelow, remember, position, keptFrom, targetFrom, path}
-use Rattle.tree.specs.Sweeps.{Dropped, dropped, Sweep, positionThen, sweepFrom, sweep, onPath, different}
+use Rattle.tree.specs.declared.walking.Found.{Found}
+use Rattle.tree.specs.Outcomes.{Outcome, gives}
+use Rattle.tree.specs.Walks.{walk, never, isBelow, remember, position, keptFrom, path}
+use Rattle.tree.specs.Sweeps.{Dropped, dropped, Leg, leg, legsFrom, legs, opened, sweepNodes, sweepAnswer, positions, sweepPositions, occurrences, onPath, sumTo, overDifferent, different}
 use Rattle.tree.proofs.Orders.{smaller-mono, ordered-head}
-use Rattle.tree.proofs.Walks.{child-bounds, walk-out, walk-length, met-none}
+use Rattle.tree.proofs.Walks.{walk-out, walk-length, Among, among-append, walk-among, met-none}
 use Rattle.tree.proofs.Inorder.{Tree, out, node, tree, tree-le}
 use Rattle.tree.proofs.Paths.{Cuts, cut-right, cut-left, walk-side, remember-side, cuts-below, search-path, search-cuts, search-position}
-use Rattle.tree.proofs.Counts.{bit, occurrences, equal-cases, contains-occurrences, count-le}
-use Rattle.tree.proofs.Counts.{sumTo, count-sum, sum-same, sum-le, sum-add, sum-none, sum-equal}
+use Rattle.tree.proofs.Counts.{bit, equal-cases, occurrences-append, contains-occurrences, sum-same, sum-le, sum-add, sum-none, count-le, sum-occurrences, length-occurrences}
 
 -- ---- how often a node stands in a walk
 
@@ -70,21 +71,6 @@ module _ (n : ℕ) (past : ℕ → Bool) where
         omega (arith, visits-node w h k v, visits-outside l v (omega arith), visits-outside r v (omega arith))
     | inr e ↦ omega (arith, visits-node w h k v, visits-once l v, visits-once r v)
   ]
-
-  walkIn-sum : (f w : ℕ) → 1 ≤ w → sumTo n (λ v. occurrences v (walkIn f n never past w)) ≡ length (walkIn f n never past w)
-  unfolding walkIn occurrences
-  walkIn-sum zero w h = sum-none n (λ v. refl)
-  walkIn-sum (suc f) w h = elim (decLt n w) [
-    | yes k ↦ rw (lt-ltb n w k) (sum-none n (λ v. refl))
-    | no k ↦
-        let u = childOf (past w) w in
-        let r = walkIn-sum f u (omega (arith, child-bounds (past w) w)) in
-        rw (le-ltb n w (omega arith)) (sum-add n (λ v. bit (eqb v w)) (λ v. occurrences v (walkIn f n never past u)) ∙ omega (arith, sum-equal n w h))
-  ]
-
-  visits-sum : (w : ℕ) → 1 ≤ w → sumTo n (visits n past w) ≡ length (walk n never past w)
-  unfolding visits walk
-  visits-sum w h = walkIn-sum _ w h
 
 -- ---- two targets, the second not below the first
 
@@ -200,10 +186,10 @@ module _ (xs : List ℕ) where
   on-once t v = visits-once (length xs) (λ u. ltb (timeOf xs u) t) (tree (length xs)) v
 
   on-sum : (t : ℕ) → sumTo (length xs) (on t) ≤ height (length xs)
-  unfolding on
+  unfolding on visits
   on-sum t =
       let past : ℕ → Bool = λ u. ltb (timeOf xs u) t in
-      omega (arith, visits-sum (length xs) past 1 (le-refl 1), walk-length (length xs) never past 1 (le-refl 1))
+      omega (arith, length-occurrences (length xs) _ (walk-among (length xs) never past 1 (le-refl 1)), walk-length (length xs) never past 1 (le-refl 1))
 
   -- 1 where it is on the path of one of the targets, else 0
   some : List ℕ → ℕ → ℕ
@@ -220,10 +206,6 @@ module _ (xs : List ℕ) where
   -- 1 where it is so and not on the path of t, else 0
   abbrev more : ℕ → List ℕ → ℕ → ℕ
   more t ts v = some ts v - on t v
-
-  some-sum : (ts : List ℕ) → different xs ts ≡ sumTo (length xs) (some ts)
-  unfolding some
-  some-sum ts = count-sum (length xs) (onPath xs ts)
 
   some-few : (ts : List ℕ) → sumTo (length xs) (some ts) ≤ length ts * height (length xs)
   some-few [] = omega (arith, sum-none (length xs) some-nil)
@@ -253,7 +235,7 @@ module _ (xs : List ℕ) (o : T (ordered xs)) where
 
 -- ---- a sweep, where no node's time is refused
 
-module _ (xs : List ℕ) (time : ℕ → Time) (fine : (v : ℕ) → 1 ≤ v → v ≤ length xs → time v ≡ at (timeOf xs v)) (o : T (ordered xs)) where
+module _ (xs : List ℕ) (time : ℕ → Outcome ℕ) (fine : (v : ℕ) → 1 ≤ v → v ≤ length xs → time v ≡ gives (timeOf xs v)) (o : T (ordered xs)) where
   -- what the sweep remembers after target t
   abbrev kept-at : ℕ → List ℕ
   kept-at t = keptFrom (length xs) time t [] 1
@@ -279,44 +261,67 @@ module _ (xs : List ℕ) (time : ℕ → Time) (fine : (v : ℕ) → 1 ≤ v →
       (tree (length xs)) (smaller-mono s t xs h) [] (λ g. refl) in
       (r .0, r .1, λ v. r .2 v ∙ ap₂ (λ (x y : ℕ). x - y) (on-search t v) (on-search s v))
 
-  target : (d : Dropped) (k t : ℕ) (f : ℕ → ℕ) → TargetGoes d t f
-      → targetFrom (length xs) time t (d .kept) k (d .from) ≡ found (smaller t xs) (k + sumTo (length xs) f)
-  unfolding targetFrom
-  target d k t f r =
-      met-none (length xs) time (timeOf xs) fine _ never (isBelow time t) (d .from) (r .0)
-      ∙ ap₂ found (ap (position (length xs)) (r .1) ∙ search-position xs time fine o t)
-      (ap (λ (x : ℕ). k + x) (sym (visits-sum (length xs) (isBelow time t) (d .from) (r .0)) ∙ sum-same (length xs) (r .2)))
+  -- what these targets open: nodes of the tree, each as often as f says; and their positions
+  record LegsGo (ts : List ℕ) (ls : List Leg) (f : ℕ → ℕ) : Type 0 where
+    among : Among (length xs) (opened ls)
+    once : (v : ℕ) → occurrences v (opened ls) ≡ f v
+    places : positions (length xs) time ls ≡ map (λ t. smaller t xs) ts
 
-  -- what a sweep of these targets gives, with k nodes opened
-  abbrev done : List ℕ → ℕ → Sweep
-  done ts k = record { positions = map (λ t. smaller t xs) ts; answer = found 0 k }
+  next-leg : (l : Leg) (t : ℕ) (ts : List ℕ) {f g : ℕ → ℕ} → Among (length xs) (l .nodes) → l .kept ≡ kept-at t → ((v : ℕ) → occurrences v (l .nodes) ≡ f v)
+      → LegsGo ts (legsFrom (length xs) time (suc (length xs)) (kept-at t) ts) (more xs t ts) → ((v : ℕ) → f v + more xs t ts v ≡ g v)
+      → LegsGo (t ∷ ts) (l ∷ legsFrom (length xs) time (suc (length xs)) (l .kept) ts) g
+  unfolding opened positions
+  next-leg l t ts a k e later sums = rw k record {
+    among = among-append (length xs) (l .nodes) _ a (later .among);
+    once = λ v. occurrences-append v (l .nodes) _ ∙ omega (arith, e v, later .once v, sums v);
+    places =
+        rw (met-none (length xs) time (timeOf xs) fine (position (length xs) (kept-at t)) (l .nodes) a)
+        (ap₂ (λ (x : ℕ) (ys : List ℕ). x ∷ ys) (search-position xs time fine o t) (later .places));
+  }
 
-  sweep-target : (from : ℕ) (kept : List ℕ) (k t : ℕ) (ts : List ℕ) {f g : ℕ → ℕ} → TargetGoes (dropped (isBelow time t) from kept) t f
-      → ((j : ℕ) → sweepFrom (length xs) time (suc (length xs)) (kept-at t) j ts ≡ done ts (j + sumTo (length xs) (more xs t ts)))
-      → ((v : ℕ) → f v + more xs t ts v ≡ g v) → sweepFrom (length xs) time from kept k (t ∷ ts) ≡ done (t ∷ ts) (k + sumTo (length xs) g)
-  unfolding sweepFrom
-  sweep-target from kept k t ts {f} r later e =
-      ap₂ (λ (a : Answer) (now : List ℕ). positionThen a (λ j. sweepFrom (length xs) time (suc (length xs)) now j ts))
-      (target (dropped (isBelow time t) from kept) k t f r) (r .1)
-      ∙ ap (λ (rest : Sweep). record { positions = smaller t xs ∷ rest .positions; answer = rest .answer }) (later (k + sumTo (length xs) f))
-      ∙ ap (done (t ∷ ts)) (omega (arith, sum-add (length xs) f (more xs t ts), sum-same (length xs) e))
+  target-leg : (from : ℕ) (kept : List ℕ) (t : ℕ) (ts : List ℕ) {f g : ℕ → ℕ} → TargetGoes (dropped (isBelow time t) from kept) t f
+      → LegsGo ts (legsFrom (length xs) time (suc (length xs)) (kept-at t) ts) (more xs t ts) → ((v : ℕ) → f v + more xs t ts v ≡ g v)
+      → LegsGo (t ∷ ts) (legsFrom (length xs) time from kept (t ∷ ts)) g
+  unfolding legsFrom visits
+  target-leg from kept t ts r later sums =
+      let d = dropped (isBelow time t) from kept in
+      next-leg (leg (length xs) time t d) t ts (walk-among (length xs) never (isBelow time t) (d .from) (r .0)) (r .1) (r .2) later sums
 
-  sweep-rest : (t : ℕ) (ts : List ℕ) → T (ordered (t ∷ ts)) → (k : ℕ)
-      → sweepFrom (length xs) time (suc (length xs)) (kept-at t) k ts ≡ done ts (k + sumTo (length xs) (more xs t ts))
-  unfolding sweepFrom
-  sweep-rest t [] q k = ap (done []) (omega (arith, sum-none (length xs) {f = more xs t []} (λ v. omega (arith, some-nil xs v))))
-  sweep-rest t (u ∷ us) q k =
+  later-legs : (t : ℕ) (ts : List ℕ) → T (ordered (t ∷ ts)) → LegsGo ts (legsFrom (length xs) time (suc (length xs)) (kept-at t) ts) (more xs t ts)
+  unfolding legsFrom opened positions occurrences Among
+  later-legs t [] q = record { among = tt; once = λ v. omega (arith, some-nil xs v); places = refl }
+  later-legs t (u ∷ us) q =
       let r = ordered-head t u us q in
-      sweep-target (suc (length xs)) (kept-at t) k u us (later-target t u (r .0)) (sweep-rest u us (r .1))
+      target-leg (suc (length xs)) (kept-at t) u us (later-target t u (r .0)) (later-legs u us (r .1))
       (λ v. omega (arith, some-cons xs u us v, on-once xs u v, on-once xs t v, some-between xs o t u us v (r .0) (r .1)))
 
-  pub sweep-answer : (ts : List ℕ) → T (ordered ts)
-      → sweep (length xs) time ts ≡ record { positions = map (λ t. smaller t xs) ts; answer = found 0 (different xs ts) }
-  unfolding sweepFrom dropped
-  sweep-answer [] q = ap (done []) (omega (arith, some-sum xs [], sum-none (length xs) (some-nil xs)))
-  sweep-answer (t ∷ ts) q =
-      sweep-target 1 [] 0 t ts {g = some xs (t ∷ ts)} (first-target t) (sweep-rest t ts q) (λ v. omega (arith, some-cons xs t ts v, on-once xs t v))
-      ∙ ap (done (t ∷ ts)) (omega (arith, some-sum xs (t ∷ ts)))
+  all-legs : (ts : List ℕ) → T (ordered ts) → LegsGo ts (legs (length xs) time ts) (some xs ts)
+  unfolding legsFrom opened positions occurrences Among dropped
+  all-legs [] q = record { among = tt; once = λ v. omega (arith, some-nil xs v); places = refl }
+  all-legs (t ∷ ts) q = target-leg 1 [] t ts (first-target t) (later-legs t ts q) (λ v. omega (arith, some-cons xs t ts v, on-once xs t v))
+
+  module _ (ts : List ℕ) (q : T (ordered ts)) where
+    pub sweep-positions : sweepPositions (length xs) time ts ≡ map (λ t. smaller t xs) ts
+    sweep-positions = all-legs ts q .places
+
+    -- a node is opened once where it is on a path, and else not at all
+    pub sweep-once : (v : ℕ) → occurrences v (sweepNodes (length xs) time ts) ≡ bit (onPath xs ts v)
+    unfolding some
+    sweep-once = all-legs ts q .once
+
+    pub sweep-sums : (f : ℕ → ℕ) → sum (map f (sweepNodes (length xs) time ts)) ≡ overDifferent xs ts f
+    sweep-sums f =
+        sum-occurrences (length xs) f _ (all-legs ts q .among)
+        ∙ sum-same (length xs) (λ v. ap (λ (x : ℕ). x * f v) (sweep-once v) ∙ times (onPath xs ts v) (f v))
+      where
+        times : (b : Bool) (x : ℕ) → bit b * x ≡ cond b x 0
+        times true x = omega arith
+        times false x = omega arith
+
+    pub sweep-answer : sweepAnswer (length xs) time ts ≡ gives (different xs ts)
+    sweep-answer =
+        met-none (length xs) time (timeOf xs) fine _ _ (all-legs ts q .among)
+        ∙ ap gives (length-occurrences (length xs) _ (all-legs ts q .among) ∙ sum-same (length xs) sweep-once)
 
 -- ---- different nodes
 
@@ -324,4 +329,5 @@ pub different-pins : (xs ts : List ℕ) → different xs ts ≤ length xs
 different-pins xs ts = count-le (length xs) (onPath xs ts)
 
 pub different-heights : (xs ts : List ℕ) → different xs ts ≤ length ts * height (length xs)
-different-heights xs ts = omega (arith, some-sum xs ts, some-few xs ts)
+unfolding some
+different-heights xs ts = some-few xs ts

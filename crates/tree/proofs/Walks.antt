@@ -1,7 +1,7 @@
 -- A walk goes from a node to one of its children, and has at most as many nodes as the height.
-use mathlib.Core.Path.{_≡_, refl, ap, subst, _∙_}
+use mathlib.Core.Path.{_≡_, refl, ap, _∙_}
 use mathlib.Core.Bool.{Bool, true, false, cond}
-use mathlib.Core.List.{List, [], _∷_}
+use mathlib.Core.List.{List, [], _∷_, _++_, map, map-append}
 use Prim.Native.Nat.{ℕ, zero, suc, _+_, _-_, _*_, _/_, _%_, _≤_, _<_}
 use native.Mathlib.Decide.{decLt, ℕ-discrete}
 use native.Mathlib.Omega.{arith}
@@ -9,9 +9,10 @@ use lib.Dec.{eqb, ltb}
 use lib.ListN.{length}
 use borrow.Author.Tests.{lt-ltb, le-ltb, eq-eqb, ne-eqb}
 use Rattle.tree.specs.Shape.{height, childOf, rank}
-use Rattle.tree.specs.Times.{Time, at, refused}
-use Rattle.tree.specs.Walks.{walkIn, walk, Answer, found, stopped, unless, met, towardFrom}
+use Rattle.tree.specs.Outcomes.{Outcome, gives, refuses, after, verdict}
+use Rattle.tree.specs.Walks.{walkIn, walk, met, towardFrom}
 use Rattle.tree.proofs.Heights.{height-step, height-mono, height-above}
+use Rattle.tree.proofs.Outcomes.{verdict-append, verdict-other, verdict-gives}
 
 pub child-bounds : (right : Bool) (v : ℕ) → (2 * v ≤ childOf right v) × (childOf right v ≤ 2 * v + 1)
 unfolding childOf
@@ -72,30 +73,29 @@ toward-on n i v h k = walk-on n (λ u. eqb (rank n u) i) (λ u. ltb (rank n u) i
 
 -- ---- the first refusal
 
-pub met-fine : (time : ℕ → Time) (answer : Answer) (v t : ℕ) (vs : List ℕ) → time v ≡ at t → met time answer (v ∷ vs) ≡ met time answer vs
-unfolding met
-met-fine time answer v t vs e = rw e
+module _ {A : Type 0} (time : ℕ → Outcome ℕ) (a : A) (v : ℕ) (vs : List ℕ) where
+  pub met-fine : {t : ℕ} → time v ≡ gives t → met time (v ∷ vs) a ≡ met time vs a
+  unfolding met verdict
+  met-fine e = rw e
 
-pub met-refused : (time : ℕ → Time) (answer : Answer) (v r u : ℕ) (vs : List ℕ) → time v ≡ refused r u → met time answer (v ∷ vs) ≡ stopped r u
-unfolding met
-met-refused time answer v r u vs e = rw e
+  pub met-refused : {r u : ℕ} → time v ≡ refuses r u → met time (v ∷ vs) a ≡ refuses r u
+  unfolding met verdict
+  met-refused e = rw e
 
--- a property of what is found; a refusal need not have it
-abbrev pub Found : (ℕ → ℕ → Type 0) → Answer → Type 0
-Found P (found x k) = P x k
-Found P (stopped r c) = Unit {0}
+module _ (time : ℕ → Outcome ℕ) (us : List ℕ) where
+  -- nodes after those that lead to b
+  pub met-append : {A B : Type 0} (vs : List ℕ) (a : A) (b : B) → met time (us ++ vs) a ≡ after (met time us b) (λ _. met time vs a)
+  unfolding met
+  met-append vs a b = rw (map-append time us vs) (verdict-append (map time us) (map time vs) a b)
 
-pub met-found : (P : ℕ → ℕ → Type 0) (time : ℕ → Time) (x k : ℕ) → P x k → (vs : List ℕ) → Found P (met time (found x k) vs)
-unfolding met
-met-found P time x k h [] = h
-met-found P time x k h (v ∷ vs) = go (time v) (met time (found x k) vs) (met-found P time x k h vs)
-  where
-    go : (z : Time) (later : Answer) → Found P later → Found P (unless z later)
-    go (at t) later f = f
-    go (refused r u) later f = tt
+  -- what is given does not decide
+  pub met-other : {A B : Type 0} (a : A) (b : B) → met time us a ≡ after (met time us b) (λ _. gives a)
+  unfolding met
+  met-other a b = verdict-other (map time us) a b
 
-pub met-told : (time : ℕ → Time) {x k t m : ℕ} (vs : List ℕ) → met time (found x k) vs ≡ found t m → (t ≡ x) × (m ≡ k)
-met-told time {x} {k} vs e = subst (Found (λ t m. (t ≡ x) × (m ≡ k))) e (met-found (λ t m. (t ≡ x) × (m ≡ k)) time x k (refl, refl) vs)
+  pub met-gives : {A : Type 0} (a x : A) → met time us a ≡ gives x → a ≡ x
+  unfolding met
+  met-gives a x e = verdict-gives (map time us) a x e
 
 -- ---- walks that agree at the nodes
 
@@ -112,20 +112,37 @@ module _ (n : ℕ) (stop past past′ : ℕ → Bool) (same : (v : ℕ) → 1 �
   unfolding walk
   walk-same v h = walkIn-same (suc (height n) - height v) v h
 
--- where no node's time is refused, no walk is
-module _ (n : ℕ) (time : ℕ → Time) (x : ℕ → ℕ) (fine : (v : ℕ) → 1 ≤ v → v ≤ n → time v ≡ at (x v)) (answer : Answer) (stop past : ℕ → Bool) where
-  metIn-none : (f v : ℕ) → 1 ≤ v → met time answer (walkIn f n stop past v) ≡ answer
-  unfolding walkIn met
-  metIn-none zero v h = refl
-  metIn-none (suc f) v h = elim (decLt n v) [
-    | yes k ↦ rw (lt-ltb n v k)
-    | no k ↦ rw (le-ltb n v (omega arith), fine v h (omega arith)) (ended (stop v) (walkIn f n stop past (childOf (past v) v)) (metIn-none f (childOf (past v) v) (omega (arith, child-bounds (past v) v))))
+-- ---- the nodes of a walk are among 1 to n
+
+unfoldable pub Among : ℕ → List ℕ → Type 0
+Among n [] = Unit {0}
+Among n (v ∷ vs) = (1 ≤ v) × (v ≤ n) × Among n vs
+
+pub among-append : (n : ℕ) (us vs : List ℕ) → Among n us → Among n vs → Among n (us ++ vs)
+unfolding Among
+among-append n [] vs a b = b
+among-append n (u ∷ us) vs a b = (a .0, a .1, among-append n us vs (a .2) b)
+
+module _ (n : ℕ) (stop past : ℕ → Bool) where
+  walkIn-among : (f v : ℕ) → 1 ≤ v → Among n (walkIn f n stop past v)
+  unfolding walkIn Among
+  walkIn-among zero v h = tt
+  walkIn-among (suc f) v h = elim (decLt n v) [
+    | yes k ↦ rw (lt-ltb n v k) tt
+    | no k ↦ rw (le-ltb n v (omega arith)) (h, omega arith, ended (stop v) _ (walkIn-among f (childOf (past v) v) (omega (arith, child-bounds (past v) v))))
   ]
     where
-      ended : (b : Bool) (later : List ℕ) → met time answer later ≡ answer → met time answer (cond b [] later) ≡ answer
-      ended true later e = refl
-      ended false later e = e
+      ended : (b : Bool) (later : List ℕ) → Among n later → Among n (cond b [] later)
+      ended true later a = tt
+      ended false later a = a
 
-  pub met-none : (v : ℕ) → 1 ≤ v → met time answer (walk n stop past v) ≡ answer
+  pub walk-among : (v : ℕ) → 1 ≤ v → Among n (walk n stop past v)
   unfolding walk
-  met-none v h = metIn-none (suc (height n) - height v) v h
+  walk-among v h = walkIn-among (suc (height n) - height v) v h
+
+-- where no node's time is refused, nothing is
+pub met-none : {A : Type 0} (n : ℕ) (time : ℕ → Outcome ℕ) (x : ℕ → ℕ) → ((v : ℕ) → 1 ≤ v → v ≤ n → time v ≡ gives (x v)) → (a : A) (vs : List ℕ) → Among n vs
+    → met time vs a ≡ gives a
+unfolding met verdict Among
+met-none n time x fine a [] m = refl
+met-none n time x fine a (v ∷ vs) m = rw (fine v (m .0) (m .1)) (met-none n time x fine a vs (m .2))

@@ -4,11 +4,13 @@ use Prim.Native.Nat.{ℕ, zero, suc}
 use Rattle.tree.specs.declared.listing.Listed.{Listed}
 use Rattle.tree.specs.declared.listing.Listed.the-variants as listing
 use Rattle.tree.specs.declared.nodes.Levels.{Levels}
+use Rattle.tree.specs.declared.walking.Found.{Found}
+use Rattle.tree.specs.Outcomes.{Outcome, follow}
 use Rattle.tree.specs.Times.{numberOf, nodeOf, timesIn}
-use Rattle.tree.specs.Walks.{Answer, found, stopped, accessAnswer}
+use Rattle.tree.specs.Walks.{accessAnswer}
 
 -- what access answers at each position, by the parts of the levels
-abbrev pub accesses : Levels → List ℕ → ℕ → Answer
+abbrev pub accesses : Levels → List ℕ → ℕ → Outcome Found
 accesses levels s = accessAnswer (levels .pins) (timesIn levels s)
 
 -- what ends a listing early: the position, the number of its refusal and what that carries
@@ -16,24 +18,15 @@ pub data Stop : Type 0 where
   nowhere : Stop
   at : ℕ → ℕ → ℕ → Stop
 
--- by what access answers at a position: its time, then the later ones
-abbrev pub timeThen : Answer → List ℕ → List ℕ
-timeThen (found t k) later = t ∷ later
-timeThen (stopped r c) later = []
-
 -- the times of k positions from i on, as far as access is not refused
-unfoldable pub timesFrom : (ℕ → Answer) → ℕ → ℕ → List ℕ
+unfoldable pub timesFrom : (ℕ → Outcome Found) → ℕ → ℕ → List ℕ
 timesFrom answer zero i = []
-timesFrom answer (suc k) i = timeThen (answer i) (timesFrom answer k (suc i))
-
-abbrev pub stopOr : ℕ → Answer → Stop → Stop
-stopOr i (found t k) later = later
-stopOr i (stopped r c) later = at i r c
+timesFrom answer (suc k) i = follow (λ r c. []) (answer i) (λ f. f .value ∷ timesFrom answer k (suc i))
 
 -- the first of these positions at which access is refused
-unfoldable pub stopFrom : (ℕ → Answer) → ℕ → ℕ → Stop
+unfoldable pub stopFrom : (ℕ → Outcome Found) → ℕ → ℕ → Stop
 stopFrom answer zero i = nowhere
-stopFrom answer (suc k) i = stopOr i (answer i) (stopFrom answer k (suc i))
+stopFrom answer (suc k) i = follow (at i) (answer i) (λ f. stopFrom answer k (suc i))
 
 -- all positions: the times
 abbrev pub timesAll : Levels → List ℕ → List ℕ

@@ -1,13 +1,14 @@
--- What is shown of the tree besides each function's contract. proofs/Promises proves each, as `height-least`, `shape`, `contents`,
--- `search-finds`, `access-opens`, `stored-levels`, `listing-finds`, `sweep-finds`, `chosen-stored`, `stored-chosen`, `decoded-chosen`,
--- `zero-marks` and `sweep-opens`.
+-- What is shown of the tree besides each function's contract. proofs/Promises proves each, as `height-least`, `shape`, `held-reads`,
+-- `different-few`, `access-opens`, `stored-levels`, `listing-finds`, `chosen-stored`, `stored-chosen`, `decoded-chosen`,
+-- `zero-marks` and `sweep-rises`.
 use mathlib.Core.Path.{_≡_}
 use mathlib.Core.Logic.{_≢_, _↔_}
-use mathlib.Core.Bool.{Bool, true, false}
+use mathlib.Core.Bool.{Bool, true, false, cond}
 use mathlib.Core.List.{List, map}
 use Prim.Native.Nat.{ℕ, suc, _-_, _*_, _+_, _^_, _≤_, _<_, min}
 use lib.Dec.{T}
 use lib.ListN.{length, getD, replicate}
+use Rattle.codes.specs.Bits.{sum}
 use Rattle.codes.specs.Codes.{part, Within}
 use Rattle.codes.specs.Choice.{chosen}
 use Rattle.codes.specs.Decode.{all}
@@ -17,12 +18,14 @@ use Rattle.tree.specs.Lists.{ordered, smaller}
 use Rattle.tree.specs.Stored.{timeOf, storedValues}
 use Rattle.tree.specs.Levels.{firstOf, levelOf, codeOf, partOf, levelValues, Stores}
 use Rattle.tree.specs.LevelMarks.{LevelMarks}
-use Rattle.tree.specs.Times.{Time, at, timesIn}
+use Rattle.tree.specs.declared.walking.Found.{Found}
+use Rattle.tree.specs.Outcomes.{Outcome, gives}
+use Rattle.tree.specs.Times.{timesIn}
 use Rattle.tree.specs.Listing.{nowhere, accesses, timesFrom, stopFrom, timesAll, stopAll, endOf}
 use Rattle.tree.specs.DecodedLevels.{decodedLevels, Decodes}
 use Rattle.tree.specs.Chosen.{allChosen}
-use Rattle.tree.specs.Walks.{walk, Answer, found, toward, accessAnswer, searchNodes, searchAnswer, path, fromRoot}
-use Rattle.tree.specs.Sweeps.{sweep, sweepNodes, sweepAll, different}
+use Rattle.tree.specs.Walks.{walk, found, toward, accessAnswer, searchNodes, searchAnswer, path, fromRoot}
+use Rattle.tree.specs.Sweeps.{sweepNodes, sweepAnswer, sweepPositions, occurrences, onPath, overDifferent, different}
 
 -- The height is the least number with 2 ^ h - 1 ≥ n.
 pub record HeightLeast : Type 0 where
@@ -53,27 +56,40 @@ pub record Held (levels : Levels) (s xs : List ℕ) : Type 0 where
   pub times : Within 32 xs
   pub stores : Stores levels s xs
 
--- 2. Going down, each node has the list's time at its rank, and access at i gives time i. Nothing is refused.
-pub record Contents : Type 0 where
-  pub node : (levels : Levels) (s xs : List ℕ) → Held levels s xs → (v : ℕ) → 1 ≤ v → v ≤ length xs
-      → timesIn levels s v ≡ at (timeOf xs v)
-  pub access : (levels : Levels) (s xs : List ℕ) → Held levels s xs → (i : ℕ) → i < length xs
-      → accessAnswer (levels .pins) (timesIn levels s) i ≡ found (getD xs i 0) (length (toward (length xs) i))
+-- 2. What is read where levels hold a list, of n pins with these times at the nodes. Nothing is refused.
+pub record Contents (n : ℕ) (time : ℕ → Outcome ℕ) (xs : List ℕ) : Type 0 where
+  -- going down, each node has the list's time at its rank
+  pub node : (v : ℕ) → 1 ≤ v → v ≤ length xs → time v ≡ gives (timeOf xs v)
+  -- access at i gives time i, and so all positions are listed
+  pub access : (i : ℕ) → i < length xs → accessAnswer n time i ≡ gives (found (getD xs i 0) (length (toward (length xs) i)))
+  pub times : timesFrom (accessAnswer n time) n 0 ≡ xs
+  pub stop : stopFrom (accessAnswer n time) n 0 ≡ nowhere
+  -- a search opens the nodes of its path, which goes on after an equal time, and counts them; it gives the number of times smaller than its
+  -- target, so the first pin of a chord
+  pub path-nodes : (t : ℕ) → searchNodes n time t 1 ≡ path xs t
+  pub search : (t : ℕ) → searchAnswer n time t ≡ gives (found (smaller t xs) (length (path xs t)))
+  -- a sweep of targets in order gives each the same number, and counts the different nodes on their paths
+  pub positions : (ts : List ℕ) → T (ordered ts) → sweepPositions n time ts ≡ map (λ t. smaller t xs) ts
+  pub sweep : (ts : List ℕ) → T (ordered ts) → sweepAnswer n time ts ≡ gives (different xs ts)
+  -- each node stands among those that it opens once where it is on the path of a target, and else not at all; so the sum over them of any
+  -- number that belongs to a node is that over the different nodes
+  pub once : (ts : List ℕ) → T (ordered ts) → (v : ℕ) → occurrences v (sweepNodes n time ts) ≡ cond (onPath xs ts v) 1 0
+  pub sums : (ts : List ℕ) → T (ordered ts) → (f : ℕ → ℕ) → sum (map f (sweepNodes n time ts)) ≡ overDifferent xs ts f
 
--- 3. A search gives the number of times smaller than its target, so the first pin of a chord. It opens the nodes of its path, which
--- goes on after an equal time, and counts them. Nothing is refused.
-pub record SearchFinds : Type 0 where
-  pub nodes : (levels : Levels) (s xs : List ℕ) → Held levels s xs → (t : ℕ)
-      → searchNodes (levels .pins) (timesIn levels s) t 1 ≡ path xs t
-  pub answer : (levels : Levels) (s xs : List ℕ) → Held levels s xs → (t : ℕ)
-      → searchAnswer (levels .pins) (timesIn levels s) t ≡ found (smaller t xs) (length (path xs t))
+abbrev pub HeldReads : Type 0
+HeldReads = (levels : Levels) (s xs : List ℕ) → Held levels s xs → Contents (levels .pins) (timesIn levels s) xs
+
+-- 3. The different nodes on the paths of targets are at most all pins, and at most the height for each target.
+pub record DifferentFew : Type 0 where
+  pub pins : (xs ts : List ℕ) → different xs ts ≤ length xs
+  pub heights : (xs ts : List ℕ) → different xs ts ≤ length ts * height (length xs)
 
 -- 4. An access at i opens the nodes from the root to the one of rank i, one or more and at most the height, and counts them.
 pub record AccessOpens : Type 0 where
   pub nodes : (n v : ℕ) → 1 ≤ v → v ≤ n → toward n (rank n v) ≡ fromRoot v
   pub some : (n i : ℕ) → 1 ≤ n → 1 ≤ length (toward n i)
   pub few : (n i : ℕ) → length (toward n i) ≤ height n
-  pub count : (n : ℕ) (time : ℕ → Time) (i t k : ℕ) → accessAnswer n time i ≡ found t k → k ≡ length (toward n i)
+  pub count : (n : ℕ) (time : ℕ → Outcome ℕ) (i : ℕ) (f : Found) → accessAnswer n time i ≡ gives f → f .nodes ≡ length (toward n i)
 
 -- 5. There are as many stored values as times, and none has more bits than the times. A level has at most half of them, rounded up;
 -- with the nodes above it, at most as many as there are nodes down to it.
@@ -84,23 +100,12 @@ pub record StoredLevels : Type 0 where
   pub half : (values : List ℕ) (l : ℕ) → 2 * length (levelValues values l) ≤ length values + 1
   pub above : (values : List ℕ) (d : ℕ) → min (length values) (2 ^ d - 1) + length (levelValues values (suc d)) ≤ min (length values) (2 ^ suc d - 1)
 
--- 6. A listing has a time for each position before the one where it ends, each of 32 bits. Of levels that hold a list it lists that
--- list, and nothing is refused.
+-- 6. A listing has a time for each position before the one where it ends, each of 32 bits.
 pub record ListingFinds : Type 0 where
-  pub count : (answer : ℕ → Answer) (k : ℕ) → length (timesFrom answer k 0) ≡ endOf (stopFrom answer k 0) k
+  pub count : (answer : ℕ → Outcome Found) (k : ℕ) → length (timesFrom answer k 0) ≡ endOf (stopFrom answer k 0) k
   pub within : (levels : Levels) (s : List ℕ) (k : ℕ) → Within 32 (timesFrom (accesses levels s) k 0)
-  pub times : (levels : Levels) (s xs : List ℕ) → Held levels s xs → timesAll levels s ≡ xs
-  pub stop : (levels : Levels) (s xs : List ℕ) → Held levels s xs → stopAll levels s ≡ nowhere
 
--- 7. A sweep of targets in order gives each the number of times smaller than it, as its search does. It opens each node on the paths of
--- its targets once, at most all pins, and at most the height for each target. Nothing is refused.
-pub record SweepFinds : Type 0 where
-  pub answer : (levels : Levels) (s xs : List ℕ) → Held levels s xs → (ts : List ℕ) → T (ordered ts)
-      → sweepAll levels s ts ≡ record { positions = map (λ t. smaller t xs) ts; answer = found 0 (different xs ts) }
-  pub pins : (xs ts : List ℕ) → different xs ts ≤ length xs
-  pub heights : (xs ts : List ℕ) → different xs ts ≤ length ts * height (length xs)
-
--- 8. Where the levels are what pack writes for the values that they are decoded to, and every position has a time, these values are what
+-- 7. Where the levels are what pack writes for the values that they are decoded to, and every position has a time, these values are what
 -- the tree of the listed times stores.
 abbrev pub ChosenStored : Type 0
 ChosenStored = (levels : Levels) (s : List ℕ) → allChosen levels s ≡ true → nowhere ≡ stopAll levels s
@@ -108,25 +113,23 @@ ChosenStored = (levels : Levels) (s : List ℕ) → allChosen levels s ≡ true 
     → let vs = levelValues (storedValues (timesAll levels s)) l in
     (chosen vs .code ≡ codeOf levels l) × (part (codeOf levels l) vs ≡ partOf levels s l)
 
--- 9. The other way round: levels that hold what a list's tree stores, each in the code that pack chooses, are what pack writes for the
+-- 8. The other way round: levels that hold what a list's tree stores, each in the code that pack chooses, are what pack writes for the
 -- values that they are decoded to.
 abbrev pub StoredChosen : Type 0
 StoredChosen = (levels : Levels) (s xs : List ℕ) → Stores levels s xs
     → ((l : ℕ) → 1 ≤ l → l ≤ height (length xs) → codeOf levels l ≡ chosen (levelValues (storedValues xs) l) .code)
     → allChosen levels s ≡ true
 
--- 10. Levels that are decoded have the values that stand in the buffer then; where one is not, they are not what pack writes.
+-- 9. Levels that are decoded have the values that stand in the buffer then; where one is not, they are not what pack writes.
 pub record DecodedChosen : Type 0 where
   pub values : (levels : Levels) (s values : List ℕ) → Decodes levels s true values → decodedLevels levels s ≡ all values
   pub others : (levels : Levels) (s values : List ℕ) → Decodes levels s false values → allChosen levels s ≡ false
 
--- 11. Entries that are all 0 are marks of any levels, however many they are.
+-- 10. Entries that are all 0 are marks of any levels, however many they are.
 abbrev pub ZeroMarks : Type 0
 ZeroMarks = (ends s : List ℕ) (n : ℕ) → LevelMarks ends s (replicate n 0)
 
--- 12. A sweep of any targets on any strip opens the nodes of a level from left to right, so none twice. Where nothing is refused, its count
--- is that of the nodes.
-pub record SweepOpens : Type 0 where
-  pub rises : (n : ℕ) (time : ℕ → Time) (ts : List ℕ) (i j : ℕ) → let vs = sweepNodes n time ts in
-      i < j → j < length vs → levelOf (getD vs i 0) ≡ levelOf (getD vs j 0) → getD vs i 0 < getD vs j 0
-  pub count : (n : ℕ) (time : ℕ → Time) (ts : List ℕ) (k : ℕ) → sweep n time ts .answer ≡ found 0 k → k ≡ length (sweepNodes n time ts)
+-- 11. A sweep of any targets on any strip opens the nodes of a level from left to right, so none twice.
+abbrev pub SweepRises : Type 0
+SweepRises = (n : ℕ) (time : ℕ → Outcome ℕ) (ts : List ℕ) (i j : ℕ) → let vs = sweepNodes n time ts in
+    i < j → j < length vs → levelOf (getD vs i 0) ≡ levelOf (getD vs j 0) → getD vs i 0 < getD vs j 0

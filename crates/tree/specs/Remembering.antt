@@ -7,11 +7,13 @@ use lib.Dec.{eqb, ltb}
 use lib.ListN.{length, getD}
 use Rattle.tree.specs.declared.nodes.Levels.{Levels}
 use Rattle.tree.specs.declared.targets.Progress.{Progress}
-use Rattle.tree.specs.declared.targets.Walked.{Walked}
-use Rattle.tree.specs.declared.targets.Walked.the-variants as walked
+use Rattle.tree.specs.declared.targets.Ending.{Ending}
+use Rattle.tree.specs.declared.targets.Ending.the-variants as ending
 use Rattle.tree.specs.Shape.{height, childOf, stretch}
-use Rattle.tree.specs.Times.{at, timesIn, numberOf, nodeOf}
-use Rattle.tree.specs.Walks.{Answer, stopped, position, keptFrom, targetFrom}
+use Rattle.tree.specs.declared.walking.Found.{Found}
+use Rattle.tree.specs.Outcomes.{Outcome, gives, refuses}
+use Rattle.tree.specs.Times.{timesIn, numberOf, nodeOf}
+use Rattle.tree.specs.Walks.{position, keptFrom, targetFrom}
 use Rattle.tree.specs.Standing.{Stands}
 
 -- the first c entries, the last first: the remembered nodes, the deepest first
@@ -37,7 +39,7 @@ pub record Entry (levels : Levels) (s kept : List ℕ) (i v x : ℕ) : Type 0 wh
   pub above : ℕ
   pub place : Place levels s kept i v above
   pub among : v ≤ levels .pins
-  pub time : timesIn levels s v ≡ at x
+  pub time : timesIn levels s v ≡ gives x
 
 -- a sweep that has come so far can go on: each node opened is remembered or before the stretch where it stands
 pub record GoesOn (levels : Levels) (s nodes times : List ℕ) (p : Progress) : Type 0 where
@@ -54,7 +56,7 @@ resumedAt nodes times p t =
     cond (eqb m (p .count)) p (record { count = m; v = childOf true (getD nodes m 0); above = getD times m 0; opened = p .opened })
 
 -- what target t answers that goes on from there
-abbrev pub answerOn : Levels → List ℕ → ℕ → List ℕ → Progress → Answer
+abbrev pub answerOn : Levels → List ℕ → ℕ → List ℕ → Progress → Outcome Found
 answerOn levels s t nodes p = targetFrom (levels .pins) (timesIn levels s) t (entries nodes (p .count)) (p .opened) (p .v)
 
 -- what it leaves remembered
@@ -68,6 +70,6 @@ pub record Comes (levels : Levels) (s : List ℕ) (t : ℕ) (nodes₀ : List ℕ
   pub kept : keptOn levels s t nodes p ≡ keptOn levels s t nodes₀ from
 
 -- it ends at a missing child, or is refused
-abbrev pub Leaves : Levels → List ℕ → ℕ → List ℕ → Progress → List ℕ → List ℕ → Walked → Type 0
-Leaves levels s t nodes₀ from nodes times (walked.To p) = Comes levels s t nodes₀ from nodes times p × (levels .pins < p .v)
-Leaves levels s t nodes₀ from nodes times (walked.Refused r) = answerOn levels s t nodes₀ from ≡ stopped (numberOf r) (nodeOf r)
+abbrev pub Leaves : Levels → List ℕ → ℕ → List ℕ → Progress → List ℕ → List ℕ → Ending → Type 0
+Leaves levels s t nodes₀ from nodes times (ending.At p) = Comes levels s t nodes₀ from nodes times p × (levels .pins < p .v)
+Leaves levels s t nodes₀ from nodes times (ending.Refused r) = answerOn levels s t nodes₀ from ≡ refuses (numberOf r) (nodeOf r)

@@ -6,8 +6,10 @@ use lib.ListN.{length}
 use Rattle.tree.specs.declared.shape.Stretch.{Stretch}
 use Rattle.tree.specs.declared.nodes.Levels.{Levels}
 use Rattle.tree.specs.Shape.{stretch}
-use Rattle.tree.specs.Times.{Time, at, known, timesIn}
-use Rattle.tree.specs.Walks.{Answer, found, met, towardFrom, lastOf}
+use Rattle.tree.specs.declared.walking.Found.{Found}
+use Rattle.tree.specs.Outcomes.{Outcome, gives, known}
+use Rattle.tree.specs.Times.{timesIn}
+use Rattle.tree.specs.Walks.{found, met, towardFrom, lastOf}
 use Rattle.tree.specs.Listing.{accesses}
 
 -- the stretch of node v has `pins` from `start` on
@@ -21,13 +23,13 @@ pub record Stands (levels : Levels) (s : List ℕ) (v depth : ℕ) (here : Stret
   pub high : v < 2 * 2 ^ depth
   pub under : stretch (levels .pins) v ≡ here
   pub inside : here .start + here .pins ≤ levels .pins
-  pub parent : timesIn levels s (v / 2) ≡ at above
+  pub parent : timesIn levels s (v / 2) ≡ gives above
 
 -- what an access at i answers that goes on from node v, with k nodes opened
-abbrev pub accessFrom : ℕ → (ℕ → Time) → ℕ → ℕ → ℕ → Answer
+abbrev pub accessFrom : ℕ → (ℕ → Outcome ℕ) → ℕ → ℕ → ℕ → Outcome Found
 accessFrom n time i k v =
     let nodes = towardFrom n i v in
-    met time (found (known (time (lastOf (v / 2) nodes))) (k + length nodes)) nodes
+    met time nodes (found (known (time (lastOf (v / 2) nodes))) (k + length nodes))
 
 -- accesses to the stretch under node v come to it
 abbrev pub Reaches : Levels → List ℕ → ℕ → ℕ → Stretch → Type 0

@@ -1,4 +1,4 @@
--- Sweeps: many targets in one walk, and the different nodes on their paths.
+-- Sweeps: the nodes that many targets open in one walk, what a sweep answers by them, and the different nodes on the targets' paths.
 use mathlib.Core.Bool.{Bool, true, false, cond, _||_}
 use mathlib.Core.List.{List, [], _∷_, _++_}
 use Prim.Native.Nat.{ℕ, zero, suc, _+_}
@@ -7,9 +7,9 @@ use lib.ListN.{length}
 use Rattle.tree.specs.declared.sweeping.Swept.{Swept}
 use Rattle.tree.specs.declared.sweeping.Swept.the-variants as sweeping
 use Rattle.tree.specs.Shape.{childOf}
-use Rattle.tree.specs.declared.nodes.Levels.{Levels}
-use Rattle.tree.specs.Times.{Time, numberOf, nodeOf, timesIn}
-use Rattle.tree.specs.Walks.{Answer, found, stopped, isBelow, searchNodes, keptFrom, targetFrom, path}
+use Rattle.tree.specs.Outcomes.{Outcome, gives, refuses, follow}
+use Rattle.tree.specs.Times.{numberOf, nodeOf}
+use Rattle.tree.specs.Walks.{met, isBelow, searchNodes, position, keptFrom, path}
 
 -- the nodes still remembered, and the node to go on from
 pub record Dropped : Type 0 where
@@ -22,47 +22,55 @@ unfoldable pub dropped : (ℕ → Bool) → ℕ → List ℕ → Dropped
 dropped past from [] = record { from = from; kept = [] }
 dropped past from (v ∷ vs) = cond (past v) (dropped past (childOf true v) vs) (record { from = from; kept = v ∷ vs })
 
--- The positions written, and the answer: the nodes opened in all (no number is given besides, so 0), or a refusal.
-pub record Sweep : Type 0 where
-  pub positions : List ℕ
-  pub answer : Answer
+-- what one target of a sweep does: the nodes that it opens, in order, and those that it leaves remembered
+pub record Leg : Type 0 where
+  pub nodes : List ℕ
+  pub kept : List ℕ
 
--- by what a target answers: its position, then the later targets', which go on from the nodes opened so far
-abbrev pub positionThen : Answer → (ℕ → Sweep) → Sweep
-positionThen (found p k) later = let rest = later k in record { positions = p ∷ rest .positions; answer = rest .answer }
-positionThen (stopped r c) later = record { positions = []; answer = stopped r c }
+abbrev pub leg : ℕ → (ℕ → Outcome ℕ) → ℕ → Dropped → Leg
+leg n time t d = record { nodes = searchNodes n time t (d .from); kept = keptFrom n time t (d .kept) (d .from) }
 
--- A sweep that has opened k nodes. The next target goes on from node `from`, unless it drops a remembered node; those after it only
--- where they drop one, since suc n is no node.
-unfoldable pub sweepFrom : ℕ → (ℕ → Time) → ℕ → List ℕ → ℕ → List ℕ → Sweep
-sweepFrom n time from kept k [] = record { positions = []; answer = found 0 k }
-sweepFrom n time from kept k (t ∷ ts) =
-    let d = dropped (isBelow time t) from kept in
-    positionThen (targetFrom n time t (d .kept) k (d .from)) (λ j. sweepFrom n time (suc n) (keptFrom n time t (d .kept) (d .from)) j ts)
+-- One target after the other. The next one goes on from node `from`, unless it drops a remembered node; those after it only where they
+-- drop one, since suc n is no node.
+unfoldable pub legsFrom : ℕ → (ℕ → Outcome ℕ) → ℕ → List ℕ → List ℕ → List Leg
+legsFrom n time from kept [] = []
+legsFrom n time from kept (t ∷ ts) = let l = leg n time t (dropped (isBelow time t) from kept) in l ∷ legsFrom n time (suc n) (l .kept) ts
 
 -- the first target as search does
-abbrev pub sweep : ℕ → (ℕ → Time) → List ℕ → Sweep
-sweep n time ts = sweepFrom n time 1 [] 0 ts
+abbrev pub legs : ℕ → (ℕ → Outcome ℕ) → List ℕ → List Leg
+legs n time ts = legsFrom n time 1 [] ts
 
--- the nodes that it opens, in order; where one is refused, none after it
-unfoldable pub sweepNodesFrom : ℕ → (ℕ → Time) → ℕ → List ℕ → List ℕ → List ℕ
-sweepNodesFrom n time from kept [] = []
-sweepNodesFrom n time from kept (t ∷ ts) =
-    let d = dropped (isBelow time t) from kept in
-    searchNodes n time t (d .from) ++ sweepNodesFrom n time (suc n) (keptFrom n time t (d .kept) (d .from)) ts
+-- all nodes that they open, in order; where one is refused, none after it
+unfoldable pub opened : List Leg → List ℕ
+opened [] = []
+opened (l ∷ ls) = l .nodes ++ opened ls
 
-abbrev pub sweepNodes : ℕ → (ℕ → Time) → List ℕ → List ℕ
-sweepNodes n time ts = sweepNodesFrom n time 1 [] ts
+abbrev pub sweepNodes : ℕ → (ℕ → Outcome ℕ) → List ℕ → List ℕ
+sweepNodes n time ts = opened (legs n time ts)
 
--- in the bytes of a strip
-abbrev pub sweepAll : Levels → List ℕ → List ℕ → Sweep
-sweepAll levels s ts = sweep (levels .pins) (timesIn levels s) ts
+-- the nodes opened in all, or the first refusal
+abbrev pub sweepAnswer : ℕ → (ℕ → Outcome ℕ) → List ℕ → Outcome ℕ
+sweepAnswer n time ts = met time (sweepNodes n time ts) (length (sweepNodes n time ts))
 
-abbrev pub swept : Swept → Answer
-swept (sweeping.Nodes k) = found 0 k
-swept (sweeping.Refused r) = stopped (numberOf r) (nodeOf r)
+-- the positions of the targets before the first that is refused
+unfoldable pub positions : ℕ → (ℕ → Outcome ℕ) → List Leg → List ℕ
+positions n time [] = []
+positions n time (l ∷ ls) = follow (λ r c. []) (met time (l .nodes) (position n (l .kept))) (λ p. p ∷ positions n time ls)
+
+abbrev pub sweepPositions : ℕ → (ℕ → Outcome ℕ) → List ℕ → List ℕ
+sweepPositions n time ts = positions n time (legs n time ts)
+
+-- the answer of the code
+abbrev pub swept : Swept → Outcome ℕ
+swept (sweeping.Nodes k) = gives k
+swept (sweeping.Refused r) = refuses (numberOf r) (nodeOf r)
 
 -- ---- different nodes
+
+-- how often node v stands in a list
+unfoldable pub occurrences : ℕ → List ℕ → ℕ
+occurrences v [] = 0
+occurrences v (u ∷ us) = cond (eqb v u) 1 0 + occurrences v us
 
 -- node v is in a list
 unfoldable pub contains : ℕ → List ℕ → Bool
@@ -74,11 +82,15 @@ unfoldable pub onPath : List ℕ → List ℕ → ℕ → Bool
 onPath xs [] v = false
 onPath xs (t ∷ ts) v = contains v (path xs t) || onPath xs ts v
 
--- how many of 1 to k pass a test
-unfoldable pub countTo : ℕ → (ℕ → Bool) → ℕ
-countTo zero test = 0
-countTo (suc k) test = countTo k test + cond (test (suc k)) 1 0
+-- the sum of f over the numbers 1 to k
+unfoldable pub sumTo : ℕ → (ℕ → ℕ) → ℕ
+sumTo zero f = 0
+sumTo (suc k) f = sumTo k f + f (suc k)
 
--- the number of different nodes on the paths of the targets
+-- the sum of f over the different nodes on the paths of the targets, each once
+abbrev pub overDifferent : List ℕ → List ℕ → (ℕ → ℕ) → ℕ
+overDifferent xs ts f = sumTo (length xs) (λ v. cond (onPath xs ts v) (f v) 0)
+
+-- their number
 abbrev pub different : List ℕ → List ℕ → ℕ
-different xs ts = countTo (length xs) (onPath xs ts)
+different xs ts = overDifferent xs ts (λ v. 1)

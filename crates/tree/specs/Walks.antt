@@ -1,16 +1,16 @@
--- Walks down the tree: the nodes that they open, and what access and search answer.
+-- Walks down the tree: the nodes that they open, in order, and what access and search answer by them.
 use mathlib.Core.Bool.{Bool, false, cond}
-use mathlib.Core.List.{List, [], _∷_}
+use mathlib.Core.List.{List, [], _∷_, map}
 use Prim.Native.Nat.{ℕ, zero, suc, _+_, _-_, _/_}
 use lib.Dec.{eqb, ltb}
 use lib.ListN.{length}
-use Rattle.tree.specs.declared.walking.Accessed.{Accessed}
-use Rattle.tree.specs.declared.walking.Accessed.the-variants as access
-use Rattle.tree.specs.declared.walking.Searched.{Searched}
-use Rattle.tree.specs.declared.walking.Searched.the-variants as search
+use Rattle.tree.specs.declared.walking.Found.{Found}
+use Rattle.tree.specs.declared.walking.Walked.{Walked}
+use Rattle.tree.specs.declared.walking.Walked.the-variants as walking
 use Rattle.tree.specs.Shape.{height, childOf, rank}
 use Rattle.tree.specs.Stored.{timeOf}
-use Rattle.tree.specs.Times.{Time, at, refused, numberOf, nodeOf, known}
+use Rattle.tree.specs.Outcomes.{Outcome, gives, refuses, known, verdict}
+use Rattle.tree.specs.Times.{numberOf, nodeOf}
 
 -- A walk asks two things of a node: does it end here, and if not, does it leave by the right side? `stop v` and `past v` are
 -- the answers for node v. These are the nodes that it opens from node v on, until no child, f at most.
@@ -24,20 +24,18 @@ walkIn (suc f) n stop past v =
 unfoldable pub walk : ℕ → (ℕ → Bool) → (ℕ → Bool) → ℕ → List ℕ
 walk n stop past v = walkIn (suc (height n) - height v) n stop past v
 
--- what was asked for with the nodes opened, or the number of a refusal with what it carries
-pub data Answer : Type 0 where
-  found : ℕ → ℕ → Answer
-  stopped : ℕ → ℕ → Answer
+-- what comes of opening these nodes in this order: the first refusal of a node's time, or else what is given
+unfoldable pub met : {A : Type 0} → (ℕ → Outcome ℕ) → List ℕ → A → Outcome A
+met time nodes a = verdict (map time nodes) a
 
--- `later`, where the time is not refused
-abbrev pub unless : Time → Answer → Answer
-unless (at t) later = later
-unless (refused r u) later = stopped r u
+-- what a walk gives: what was asked for, and the nodes opened
+abbrev pub found : ℕ → ℕ → Found
+found x k = record { value = x; nodes = k }
 
--- what ends a call that opens these nodes in this order: the first refusal, or else `answer`
-unfoldable pub met : (ℕ → Time) → Answer → List ℕ → Answer
-met time answer [] = answer
-met time answer (v ∷ vs) = unless (time v) (met time answer vs)
+-- the answer of the code
+abbrev pub walked : Walked → Outcome Found
+walked (walking.Found f) = gives f
+walked (walking.Refused r) = refuses (numberOf r) (nodeOf r)
 
 -- ---- access
 
@@ -54,12 +52,8 @@ lastOf d [] = d
 lastOf d (v ∷ vs) = lastOf v vs
 
 -- the time of the last node
-unfoldable pub accessAnswer : ℕ → (ℕ → Time) → ℕ → Answer
-accessAnswer n time i = let nodes = toward n i in met time (found (known (time (lastOf 0 nodes))) (length nodes)) nodes
-
-abbrev pub accessed : Accessed → Answer
-accessed (access.Time t k) = found t k
-accessed (access.Refused r) = stopped (numberOf r) (nodeOf r)
+unfoldable pub accessAnswer : ℕ → (ℕ → Outcome ℕ) → ℕ → Outcome Found
+accessAnswer n time i = let nodes = toward n i in met time nodes (found (known (time (lastOf 0 nodes))) (length nodes))
 
 -- ---- search
 
@@ -67,11 +61,11 @@ abbrev pub never : ℕ → Bool
 never v = false
 
 -- the node's time is below t
-abbrev pub isBelow : (ℕ → Time) → ℕ → ℕ → Bool
+abbrev pub isBelow : (ℕ → Outcome ℕ) → ℕ → ℕ → Bool
 isBelow time t v = ltb (known (time v)) t
 
 -- from node v, left where the node's time is at or above t, else right, until no child
-abbrev pub searchNodes : ℕ → (ℕ → Time) → ℕ → ℕ → List ℕ
+abbrev pub searchNodes : ℕ → (ℕ → Outcome ℕ) → ℕ → ℕ → List ℕ
 searchNodes n time t v = walk n never (isBelow time t) v
 
 -- the nodes left by their left side, the deepest first, then those remembered before
@@ -85,22 +79,18 @@ position n [] = n
 position n (v ∷ vs) = rank n v
 
 -- what target t leaves remembered that goes on from node v, with these nodes remembered before
-abbrev pub keptFrom : ℕ → (ℕ → Time) → ℕ → List ℕ → ℕ → List ℕ
+abbrev pub keptFrom : ℕ → (ℕ → Outcome ℕ) → ℕ → List ℕ → ℕ → List ℕ
 keptFrom n time t kept v = remember (isBelow time t) (searchNodes n time t v) kept
 
 -- what it answers, with k nodes opened before
-unfoldable pub targetFrom : ℕ → (ℕ → Time) → ℕ → List ℕ → ℕ → ℕ → Answer
+unfoldable pub targetFrom : ℕ → (ℕ → Outcome ℕ) → ℕ → List ℕ → ℕ → ℕ → Outcome Found
 targetFrom n time t kept k v =
     let nodes = searchNodes n time t v in
-    met time (found (position n (keptFrom n time t kept v)) (k + length nodes)) nodes
+    met time nodes (found (position n (keptFrom n time t kept v)) (k + length nodes))
 
 -- from the root
-abbrev pub searchAnswer : ℕ → (ℕ → Time) → ℕ → Answer
+abbrev pub searchAnswer : ℕ → (ℕ → Outcome ℕ) → ℕ → Outcome Found
 searchAnswer n time t = targetFrom n time t [] 0 1
-
-abbrev pub searched : Searched → Answer
-searched (search.Position p k) = found p k
-searched (search.Refused r) = stopped (numberOf r) (nodeOf r)
 
 -- The path of target t on the tree of a list: to the left child where the list's time at the node's rank is at or above t, else
 -- to the right child, until that child is not among the nodes.

@@ -8,7 +8,8 @@ ghost use Prim.Native.Nat.{_*_, _^_, _≤_, _<_};
 ghost use Rattle.codes.specs.Fetch.{value};
 ghost use Rattle.tree.specs.Levels.{levelsOf, Fits};
 ghost use Rattle.tree.specs.LevelMarks.{LevelMarks};
-ghost use Rattle.tree.specs.Times.{at, refused, numberOf, nodeOf, under, timeTold, timeFetched};
+ghost use Rattle.tree.specs.Outcomes.{gives, refuses};
+ghost use Rattle.tree.specs.Times.{numberOf, nodeOf, under, timeTold, timeFetched};
 
 // The pin count, each level's code byte and each level's end. Entry 0 of the ends is where the first level starts; so the part
 // of level L, counted from 1, is the strip's bytes from entry L - 1 up to entry L.
@@ -38,7 +39,7 @@ const OUTSIDE: u64 = 8589934592;
 // Why a node has no time.
 pub(crate) fn refusal_of(v: usize, told: u64) -> Refusal
     requires { ⌜ 2 ^ 32 ≤ told ⌝ }
-    ensures { λ r. ⌜ refused (numberOf r) (nodeOf r) ≡ timeTold v told ⌝ }
+    ensures { λ r. ⌜ refuses (numberOf r) (nodeOf r) ≡ timeTold v told ⌝ }
 {
     if told < OUTSIDE {
         Refusal::Time(v)
@@ -50,7 +51,7 @@ pub(crate) fn refusal_of(v: usize, told: u64) -> Refusal
 // The time of node v, which stores `d`, by its parent's: a left child is `d` before it, a right child `d` after it. Both sides have one
 // sum, since a branch on a node's side would be wrong half of the time.
 fn time_under(v: usize, above: u32, d: u32) -> u64
-    ensures { λ r. ⌜ timeTold v r ≡ under v (at above) (value d) ⌝ }
+    ensures { λ r. ⌜ timeTold v r ≡ under v (gives above) (value d) ⌝ }
 {
     let change = if v % 2 == 0 {
         LIMIT - d as u64

@@ -2,8 +2,8 @@
 use super::nodes::Levels;
 use super::nodes::Refusal;
 use super::shape::missing_at;
+use super::targets::Ending;
 use super::targets::Progress;
-use super::targets::Walked;
 use super::targets::Way;
 use super::targets::go_down;
 use super::targets::resumed;
@@ -13,7 +13,8 @@ ghost use lib.ListN.{length};
 ghost use Rattle.tree.specs.Levels.{Fits};
 ghost use Rattle.tree.specs.LevelMarks.{LevelMarks};
 ghost use Rattle.tree.specs.Buffers.{replaced};
-ghost use Rattle.tree.specs.Sweeps.{sweepAll, swept};
+ghost use Rattle.tree.specs.Times.{timesIn};
+ghost use Rattle.tree.specs.Sweeps.{sweepAnswer, sweepPositions, swept};
 
 // The nodes opened in all, or why a target stops.
 pub enum Swept {
@@ -31,8 +32,8 @@ pub fn sweep(
     targets: &[u32],
 ) -> Swept
     requires { ⌜ Fits levels (now s) × LevelMarks (levels .ends) (now s) (now marks) × (length (now targets) ≤ length (now answers)) ⌝ }
-    ensures { λ r. ⌜ swept r ≡ sweepAll levels (now (s .entry)) (now (targets .entry)) .answer ⌝ }
-    ensures { λ r. ⌜ now (answers .exit) ≡ replaced (now (answers .entry)) 0 (sweepAll levels (now (s .entry)) (now (targets .entry)) .positions) ⌝ }
+    ensures { λ r. ⌜ swept r ≡ sweepAnswer (levels .pins) (timesIn levels (now (s .entry))) (now (targets .entry)) ⌝ }
+    ensures { λ r. ⌜ now (answers .exit) ≡ replaced (now (answers .entry)) 0 (sweepPositions (levels .pins) (timesIn levels (now (s .entry))) (now (targets .entry))) ⌝ }
     ensures { λ r. ⌜ LevelMarks (levels .ends) (now (s .entry)) (now (marks .exit)) ⌝ }
 {
     let mut nodes = [0usize; 16];
@@ -51,7 +52,7 @@ pub fn sweep(
             from: from,
             target: target,
         };
-        let walked = go_down(
+        let ending = go_down(
             &mut nodes,
             &mut times,
             marks,
@@ -61,11 +62,11 @@ pub fn sweep(
             levels.pins,
             way,
         );
-        match walked {
-            Walked::To(next) => {
+        match ending {
+            Ending::At(next) => {
                 progress = next;
             }
-            Walked::Refused(r) => {
+            Ending::Refused(r) => {
                 return Swept::Refused(r);
             }
         }

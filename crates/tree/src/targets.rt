@@ -25,8 +25,8 @@ pub(crate) struct Progress {
 }
 
 // How a target ends.
-pub(crate) enum Walked {
-    To(Progress),
+pub(crate) enum Ending {
+    At(Progress),
     Refused(Refusal),
 }
 
@@ -84,7 +84,7 @@ pub(crate) fn go_down<'a>(
     codes: &'a [u8; 16],
     n: usize,
     way: Way,
-) -> Walked
+) -> Ending
     requires { ⌜ Fits (levelsOf n (now codes) (now ends)) (now s) × GoesOn (levelsOf n (now codes) (now ends)) (now s) (now nodes) (now times) (way .from) ⌝ }
     requires { ⌜ LevelMarks (now ends) (now s) (now marks) ⌝ }
     ensures { λ r. ⌜ Leaves (levelsOf n (now (codes .entry)) (now (ends .entry))) (now (s .entry)) (way .target) (now (nodes .entry)) (way .from)
@@ -102,7 +102,7 @@ pub(crate) fn go_down<'a>(
         opened += 1;
         let told = open_node(marks, s, ends, codes, n, depth, v, time);
         if told >= LIMIT {
-            return Walked::Refused(refusal_of(v, told));
+            return Ending::Refused(refusal_of(v, told));
         }
         time = told as u32;
         if time < target {
@@ -115,7 +115,7 @@ pub(crate) fn go_down<'a>(
         }
         depth += 1;
     }
-    Walked::To(Progress {
+    Ending::At(Progress {
         count: count,
         v: v,
         above: time,

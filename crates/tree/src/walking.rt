@@ -12,25 +12,24 @@ ghost use mathlib.Core.Path.{_≡_};
 ghost use Prim.Native.Nat.{_<_};
 ghost use Rattle.tree.specs.Levels.{Fits};
 ghost use Rattle.tree.specs.Times.{timesIn};
-ghost use Rattle.tree.specs.Walks.{accessAnswer, searchAnswer, accessed, searched};
+ghost use Rattle.tree.specs.Walks.{accessAnswer, searchAnswer, walked};
 
-// The time at a position, with the nodes opened.
-pub enum Accessed {
-    Time(u32, usize),
-    Refused(Refusal),
+// What a walk gives: the time at a position, or the position of a target, with the nodes opened.
+pub struct Found {
+    pub value: usize,
+    pub nodes: usize,
 }
 
-// The position found, with the nodes opened.
-pub enum Searched {
-    Position(usize, usize),
+pub enum Walked {
+    Found(Found),
     Refused(Refusal),
 }
 
 // The time at position i: from the root down to the node of rank i. The nodes above a node have its first binary digits as their numbers.
-pub fn access(s: &[u8], levels: Levels, i: usize) -> Accessed
+pub fn access(s: &[u8], levels: Levels, i: usize) -> Walked
     requires { ⌜ Fits levels (now s) ⌝ }
     requires { ⌜ i < levels .pins ⌝ }
-    ensures { λ r. ⌜ accessed r ≡ accessAnswer (levels .pins) (timesIn levels (now (s .entry))) i ⌝ }
+    ensures { λ r. ⌜ walked r ≡ accessAnswer (levels .pins) (timesIn levels (now (s .entry))) i ⌝ }
 {
     let n = levels.pins;
     let goal = node_of(n, i);
@@ -45,19 +44,22 @@ pub fn access(s: &[u8], levels: Levels, i: usize) -> Accessed
         nodes += 1;
         let told = open_node(&mut none, s, &levels.ends, &levels.codes, n, depth, v, time);
         if told >= LIMIT {
-            return Accessed::Refused(refusal_of(v, told));
+            return Walked::Refused(refusal_of(v, told));
         }
         time = told as u32;
         depth += 1;
     }
-    Accessed::Time(time, nodes)
+    Walked::Found(Found {
+        value: time as usize,
+        nodes: nodes,
+    })
 }
 
 // The rank of the last node left by its left side, or n: left where a node's time is at or above the target, else right. The stretch under
 // the walk ends there, and at the end of the walk, where it has no pins, also starts there. Either side is as likely, so none is a branch.
-pub fn search(s: &[u8], levels: Levels, target: u32) -> Searched
+pub fn search(s: &[u8], levels: Levels, target: u32) -> Walked
     requires { ⌜ Fits levels (now s) ⌝ }
-    ensures { λ r. ⌜ searched r ≡ searchAnswer (levels .pins) (timesIn levels (now (s .entry))) target ⌝ }
+    ensures { λ r. ⌜ walked r ≡ searchAnswer (levels .pins) (timesIn levels (now (s .entry))) target ⌝ }
 {
     let n = levels.pins;
     let mut v: usize = 1;
@@ -69,11 +71,14 @@ pub fn search(s: &[u8], levels: Levels, target: u32) -> Searched
         nodes += 1;
         let told = open_node(&mut none, s, &levels.ends, &levels.codes, n, depth, v, time);
         if told >= LIMIT {
-            return Searched::Refused(refusal_of(v, told));
+            return Walked::Refused(refusal_of(v, told));
         }
         time = told as u32;
         v = child_of(v, time < target);
         depth += 1;
     }
-    Searched::Position(missing_at(n, v), nodes)
+    Walked::Found(Found {
+        value: missing_at(n, v),
+        nodes: nodes,
+    })
 }

@@ -3,7 +3,8 @@ use native.Mathlib.Omega.{arith}
 use mathlib.Core.Path.{_≡_, refl, sym, ap, _∙_}
 use Prim.Native.Nat.{ℕ, _+_, _-_, _≤_, _<_}
 use lib.ListN.{length, set, length-set}
-use Rattle.tree.specs.Times.{at, timesIn}
+use Rattle.tree.specs.Outcomes.{gives}
+use Rattle.tree.specs.Times.{timesIn}
 use Rattle.tree.specs.Listing.{timesFrom, stopFrom, listed}
 use Rattle.tree.proofs.LevelMarks.{marks-zero}
 use Rattle.tree.proofs.NodeFetches.{Level}
@@ -39,7 +40,7 @@ abbrev calls : ℕ → In 3 open-full-kinds.ps × Out 3 open-full-kinds.ps open-
 calls t = (open-full-reads.Asked, open-full-reads.Learnt, refusal-of-reads.Asked, refusal-of-reads.Learnt, root-place-reads.Asked, root-place-reads.Learnt, asked t, reads.Post)
 
 -- the time of the node
-time-is : (t : ℕ) (c : lts.Else2 (calls t) (given t) reads.Post) → let a = c .before .before .before .before .before .before .before .before .before .before .args in timesIn (a .t3) (a .s .now) (a .v) ≡ at (c .before .before .open-full .result)
+time-is : (t : ℕ) (c : lts.Else2 (calls t) (given t) reads.Post) → let a = c .before .before .before .before .before .before .before .before .before .before .args in timesIn (a .t3) (a .s .now) (a .v) ≡ gives (c .before .before .open-full .result)
 time-is t c = stands-time (c .before .before .before .before .before .before .before .before .before .before .pre .1 .1 .0) (c .before .before .open-full .ensures .0) (omega arith)
 
 -- the node is one of the tree, and its level lies in the bytes; its place is in its stretch, and that in the list

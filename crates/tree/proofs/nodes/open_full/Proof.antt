@@ -10,7 +10,8 @@ use Rattle.codes.specs.Fetch.{found}
 use Rattle.tree.specs.declared.nodes.Levels.{Levels}
 use Rattle.tree.specs.Levels.{levelsOf, fetchedAt}
 use Rattle.tree.specs.LevelMarks.{LevelMarks}
-use Rattle.tree.specs.Times.{at, under}
+use Rattle.tree.specs.Outcomes.{gives}
+use Rattle.tree.specs.Times.{under}
 use Rattle.tree.proofs.LevelMarks.{marks-room, marks-lent, marks-back}
 use Rattle.tree.proofs.NodeFetches.{fetched-from, Level, level-fits, index-below, part-short}
 use borrow.Author.Needs.{needs}
@@ -141,7 +142,7 @@ returns : tie.Need-returns
 returns c =
     let f = c .before .before .before .before .before .before in
     let a = start f .args in
-    (c .time-under .ensures ∙ ap (under (a .v) (at (a .above))) (sym (node-fetch f ∙ ap found (c .before .before .found .given .1))), marks-after f)
+    (c .time-under .ensures ∙ ap (under (a .v) (gives (a .above))) (sym (node-fetch f ∙ ap found (c .before .before .found .given .1))), marks-after f)
 
 same-length-2 : tie.Need-same-length-2
 same-length-2 c = as-many (c .before .before .before .before)
@@ -150,7 +151,7 @@ returns-2 : tie.Need-returns-2
 returns-2 c =
     let f = c .before .before .before .before in
     let a = start f .args in
-    (ap (under (a .v) (at (a .above))) (sym (node-fetch f ∙ ap found (c .enum-told .given .1))), marks-after f)
+    (ap (under (a .v) (gives (a .above))) (sym (node-fetch f ∙ ap found (c .enum-told .given .1))), marks-after f)
 
 pub open-full-spec : {M : Type 1} → statement M
 open-full-spec =

@@ -5,7 +5,8 @@ use lib.ListN.{length-take}
 use Rattle.codes.specs.Fetch.{value}
 use Rattle.codes.proofs.Promises.{short-fetches}
 use Rattle.tree.specs.Levels.{levelsOf}
-use Rattle.tree.specs.Times.{at, under}
+use Rattle.tree.specs.Outcomes.{gives}
+use Rattle.tree.specs.Times.{under}
 use Rattle.tree.proofs.NodeFetches.{fetched-from, Level, level-fits}
 use borrow.Author.Needs.{needs}
 use Rattle.tree.proofs.nodes.open_node.Statement.{statement}
@@ -66,7 +67,7 @@ returns c =
     let p = s .pre .1 in
     let short = c .before .before .fetch-short .ensures in
     let node = fetched-from (levelsOf (a .n) (a .codes .now) (a .ends .now)) (a .s .now) (a .depth) (a .v) _ (c .before .before .before .power-of-two .ensures) (p .0) (p .1) in
-    (c .time-under .ensures ∙ ap (under (a .v) (at (a .above))) (ap value short ∙ sym (short-fetches _ _ _ _ (rw (← short) (c .before .if1 .taken))) ∙ sym node), s .pre .0 .1)
+    (c .time-under .ensures ∙ ap (under (a .v) (gives (a .above))) (ap value short ∙ sym (short-fetches _ _ _ _ (rw (← short) (c .before .if1 .taken))) ∙ sym node), s .pre .0 .1)
 
 open-full-requires : tie.Need-open-full-requires
 open-full-requires c κs = search needs

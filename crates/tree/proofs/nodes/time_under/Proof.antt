@@ -1,3 +1,4 @@
+use Rattle.tree.specs.Outcomes.{gives}
 -- The sum is 2^32 more than the time: below 2^32 the time would be below 0, and from 2^33 on it would be too great.
 use native.Mathlib.Omega.{arith}
 use mathlib.Core.Path.{_≡_, ap, _∙_}
@@ -6,7 +7,6 @@ use Prim.Native.Nat.{_+_, _-_, _%_}
 use borrow.Author.Tests.{lt-ltb, le-ltb, ne-eqb}
 use borrow.Author.Needs.{needs}
 use native.Mathlib.Decide.{decLt}
-use Rattle.tree.specs.Times.{at}
 use Rattle.tree.proofs.NodeTimes.{time-left, time-right, told-time}
 use Rattle.tree.proofs.nodes.time_under.Statement.{statement}
 use Rattle.tree.proofs.nodes.time_under.Tie as tie
@@ -33,9 +33,9 @@ returns-2 c =
     let a = c .before .before .before .args in
     let time = a .above + c .before .before .if1 .change - 4294967296 in
     ⊎-elim
-    (λ w. told-time (a .v) time (omega arith) ∙ ap at (omega arith) ∙ time-left (a .v) (a .above) (a .d) (omega arith) (omega arith))
+    (λ w. told-time (a .v) time (omega arith) ∙ ap gives (omega arith) ∙ time-left (a .v) (a .above) (a .d) (omega arith) (omega arith))
     (λ w. elim (decLt (a .above + a .d) 4294967296) [
-      | yes h ↦ told-time (a .v) time (omega arith) ∙ ap at (omega arith) ∙ time-right (a .v) (a .above) (a .d) (omega arith) h
+      | yes h ↦ told-time (a .v) time (omega arith) ∙ ap gives (omega arith) ∙ time-right (a .v) (a .above) (a .d) (omega arith) h
       | no h ↦ rw (ne-eqb (a .v % 2) 0 (omega arith), le-ltb (a .above + a .d) 4294967296 (omega arith), le-ltb time 4294967296 (omega arith), lt-ltb time 8589934592 (omega arith))
     ])
     (c .before .before .if1 .came)

@@ -1,15 +1,17 @@
 -- The nodes opened are the first digits of the goal, one digit more each, which are the nodes from the root down to it.
 use native.Mathlib.Omega.{arith}
 use mathlib.Core.Path.{_≡_, refl, sym, ap, ap₂, _∙_}
-use mathlib.Core.List.{_∷_}
+use mathlib.Core.List.{List, _∷_}
 use Prim.Native.Nat.{ℕ, _+_, _-_, _*_, _/_, _^_, _≤_, _<_}
 use native.Mathlib.Nat.{div-one, zero-add}
 use borrow.Author.Needs.{needs}
 use lib.Pow.{shr-shr, shr-le, shr-lt, pow-pos}
 use Rattle.tree.specs.Shape.{height}
 use Rattle.tree.specs.Levels.{fetchedAt}
-use Rattle.tree.specs.Times.{at, timeTold, known, timesIn}
-use Rattle.tree.specs.Walks.{Answer, found, met, accessAnswer}
+use Rattle.tree.specs.declared.walking.Found.{Found}
+use Rattle.tree.specs.Outcomes.{gives, known, verdict}
+use Rattle.tree.specs.Times.{timeTold, timesIn}
+use Rattle.tree.specs.Walks.{found, met, accessAnswer}
 use Rattle.tree.proofs.Heights.{height-bound, height-mono, first-digits}
 use Rattle.tree.proofs.NodeTimes.{time-above, time-step, told-time}
 use Rattle.tree.proofs.LevelMarks.{marks-zero}
@@ -23,8 +25,8 @@ use Rattle.tree.proofs.walking.access.Tie as tie
 abbrev Inv-loop : tie.InvT-loop
 Inv-loop s i levels n goal below₀ depth₀ time₀ nodes₀ below depth time nodes =
     let read = timesIn levels s in
-    (depth + below ≡ height goal) × (nodes ≡ depth) × (read (goal / 2 ^ below) ≡ at time)
-    × (met read (found (known (read goal)) (height goal)) (downTo goal below) ≡ accessAnswer (levels .pins) read i)
+    (depth + below ≡ height goal) × (nodes ≡ depth) × (read (goal / 2 ^ below) ≡ gives time)
+    × (met read (downTo goal below) (found (known (read goal)) (height goal)) ≡ accessAnswer (levels .pins) read i) × (time < 2 ^ 32)
 
 abbrev μ-loop : tie.MeasureT-loop
 μ-loop s i levels n goal below₀ depth₀ time₀ nodes₀ below depth time nodes = below
@@ -46,6 +48,7 @@ loop-holds c =
       refl,
       rw z (time-above (fetchedAt (a .t2) (a .s .now))),
       sym (access-down (a .t2 .pins) (g .result) read (g .ensures .0) (g .ensures .1)) ∙ ap (accessAnswer (a .t2 .pins) read) (g .ensures .2),
+      omega arith,
     )
 
 abbrev goal : tie.In-loop Inv-loop μ-loop → ℕ
@@ -77,18 +80,18 @@ time-told c =
     let half : node i / 2 ≡ goal i / 2 ^ l .below = shr-shr (goal i) (l .below - 1) 1 ∙ rw e in
     time-step (fetchedAt (a .t2) (a .s .now)) (node i) (omega (arith, on-way i, pow-pos (l .depth))) ∙ rw (half, l .inv .2, c .open-node .ensures .0)
 
-time-is : (c : tie.Else1 Inv-loop μ-loop) → let a = c .before .before .before .before .before .before .before .before .before .before .before .before .args in timesIn (a .t2) (a .s .now) (node (c .before .before .before .before .before .before .before)) ≡ at (c .before .before .open-node .result)
+time-is : (c : tie.Else1 Inv-loop μ-loop) → let a = c .before .before .before .before .before .before .before .before .before .before .before .before .args in timesIn (a .t2) (a .s .now) (node (c .before .before .before .before .before .before .before)) ≡ gives (c .before .before .open-node .result)
 time-is c = time-told (c .before .before) ∙ told-time (node (c .before .before .before .before .before .before .before)) (c .before .before .open-node .result) (omega arith)
 
--- what is left of the answer
-abbrev answer : tie.In-loop Inv-loop μ-loop → Answer
+-- what is given in the end
+abbrev answer : tie.In-loop Inv-loop μ-loop → Found
 answer c = let a = c .before .before .before .before .before .args in found (known (timesIn (a .t2) (a .s .now) (goal c))) (height (goal c))
 
 on : (c : tie.In-loop Inv-loop μ-loop) → let a = c .before .before .before .before .before .args in let read = timesIn (a .t2) (a .s .now) in
-    met read (answer c) (node c ∷ downTo (goal c) (c .before .loop .below - 1)) ≡ accessAnswer (a .t2 .pins) read (a .i)
+    met read (node c ∷ downTo (goal c) (c .before .loop .below - 1)) (answer c) ≡ accessAnswer (a .t2 .pins) read (a .i)
 on c =
     let a = c .before .before .before .before .before .args in
-    sym (ap (met (timesIn (a .t2) (a .s .now)) (answer c)) (downTo-on (goal c) (c .before .loop .below) (omega arith))) ∙ c .before .loop .inv .3
+    sym (ap (λ (vs : List ℕ). met (timesIn (a .t2) (a .s .now)) vs (answer c)) (downTo-on (goal c) (c .before .loop .below) (omega arith))) ∙ c .before .loop .inv .3
 
 sub-below : tie.Need-sub-below Inv-loop μ-loop
 sub-below c = search needs
@@ -113,7 +116,7 @@ returns c =
     let i = c .before .before .before .before .before .before .before .before in
     let a = c .before .before .before .before .before .before .before .before .before .before .before .before .before .args in
     let e = time-told (c .before .before .before) ∙ sym (c .refusal-of .ensures) in
-    sym (met-refused (timesIn (a .t2) (a .s .now)) (answer i) (node i) _ _ _ e) ∙ on i
+    sym (met-refused (timesIn (a .t2) (a .s .now)) (answer i) (node i) _ e) ∙ on i
 
 cast-time : tie.Need-cast-time Inv-loop μ-loop
 cast-time c = search needs
@@ -131,19 +134,23 @@ loop-again c =
       omega (arith, c .before .before .before .before .before .before .before .before .loop .inv .0),
       omega arith,
       time-is c,
-      sym (met-fine (timesIn (a .t2) (a .s .now)) (answer i) (node i) _ _ (time-is c)) ∙ on i,
+      sym (met-fine (timesIn (a .t2) (a .s .now)) (answer i) (node i) _ (time-is c)) ∙ on i,
+      omega arith,
     )
 
+cast-t20 : tie.Need-cast-t20 Inv-loop μ-loop
+cast-t20 c = omega (arith, c .before .loop .inv .4)
+
 returns-2 : tie.Need-returns-2 Inv-loop μ-loop
-unfolding met downTo
+unfolding met verdict downTo
 returns-2 c =
     let a = c .before .before .before .before .before .args in
     let l = c .before .loop in
     let g = c .before .before .before .node-of .result in
     let read = timesIn (a .t2) (a .s .now) in
     let z : l .below ≡ 0 = omega arith in
-    let t : read g ≡ at (l .time) = ap read (sym (div-one g)) ∙ rw z at (l .inv .2) in
-    ap₂ found (sym (ap known t)) (omega (arith, l .inv .0)) ∙ rw z at (l .inv .3)
+    let t : read g ≡ gives (l .time) = ap read (sym (div-one g)) ∙ rw z at (l .inv .2) in
+    ap gives (ap₂ found (sym (ap known t)) (omega (arith, l .inv .0))) ∙ rw z at (l .inv .3)
 
 pub access-spec : {M : Type 1} → statement M
 access-spec =
@@ -165,4 +172,5 @@ access-spec =
     add-depth
     loop-less
     loop-again
+    cast-t20
     returns-2)

@@ -8,7 +8,8 @@ use native.Mathlib.Nat.{zero-add}
 use borrow.Author.Needs.{needs}
 use lib.Dec.{ltb}
 use Rattle.tree.specs.Shape.{stretch}
-use Rattle.tree.specs.Times.{at, timesIn}
+use Rattle.tree.specs.Outcomes.{gives}
+use Rattle.tree.specs.Times.{timesIn}
 use Rattle.tree.specs.Walks.{found, position, targetFrom, searchAnswer}
 use Rattle.tree.specs.Standing.{Stands}
 use Rattle.tree.proofs.Stretches.{stretch-root, stretch-child}
@@ -42,7 +43,7 @@ level : (c : tie.In-loop Inv-loop μ-loop) → let a = c .before .before .before
 level c = stands-level (c .before .loop .inv .0) (c .before .before .before .pre) (omega arith)
 
 -- its time
-time-is : (c : tie.Else1 Inv-loop μ-loop) → let a = c .before .before .before .before .before .before .before .before .before .before .args in timesIn (a .t2) (a .s .now) (c .before .before .before .before .before .before .before .before .loop .v) ≡ at (c .before .before .open-node .result)
+time-is : (c : tie.Else1 Inv-loop μ-loop) → let a = c .before .before .before .before .before .before .before .before .before .before .args in timesIn (a .t2) (a .s .now) (c .before .before .before .before .before .before .before .before .loop .v) ≡ gives (c .before .before .open-node .result)
 time-is c = stands-time (c .before .before .before .before .before .before .before .before .loop .inv .0) (c .before .before .open-node .ensures .0) (omega arith)
 
 add-nodes : tie.Need-add-nodes Inv-loop μ-loop
@@ -112,7 +113,7 @@ returns-2 c =
     let a = c .before .before .before .before .args in
     let l = c .before .before .loop in
     let n = a .t2 .pins in
-    ap (λ (p : ℕ). found p (l .nodes)) (c .missing-at .ensures ∙ sym (l .inv .2 .1 ∙ stands-end (l .inv .0) (omega arith)))
+    ap (λ (p : ℕ). gives (found p (l .nodes))) (c .missing-at .ensures ∙ sym (l .inv .2 .1 ∙ stands-end (l .inv .0) (omega arith)))
     ∙ sym (target-end n (timesIn (a .t2) (a .s .now)) (a .target) (l .inv .2 .0) (l .nodes) (l .v) (omega arith)) ∙ l .inv .2 .2
 
 pub search-spec : {M : Type 1} → statement M
