@@ -25,7 +25,7 @@ use Rattle.tree.specs.declared.walking.Found.{Found}
 use Rattle.tree.specs.Outcomes.{Outcome, gives, refuses, follow, after, known, verdict}
 use Rattle.tree.specs.Times.{under, timesIn}
 use Rattle.tree.specs.Walks.{met, toward, lastOf, accessAnswer}
-use Rattle.tree.specs.Listing.{nowhere, at, accesses, timesFrom, stopFrom, timesAll, stopAll}
+use Rattle.tree.specs.Listing.{accesses, timesFrom, stopFrom, timesAll, stopAll}
 use Rattle.tree.specs.DecodedLevels.{decodedAt}
 use Rattle.tree.specs.Chosen.{chosenBy, levelChosen}
 use Rattle.tree.specs.Promises.{ChosenStored}
@@ -34,7 +34,7 @@ use Rattle.tree.proofs.NodeTimes.{time-step}
 use Rattle.tree.proofs.Ranks.{rank-lt}
 use Rattle.tree.proofs.Outcomes.{gives-refuses}
 use Rattle.tree.proofs.Walks.{met-gives}
-use Rattle.tree.proofs.Listings.{times-end}
+use Rattle.tree.proofs.Listings.{times-all}
 use Rattle.tree.proofs.Paths.{toward-rank, last-fromRoot, fromRoot-length}
 use Rattle.tree.proofs.Contents.{above-at}
 use Rattle.tree.proofs.LevelValues.{length-stored, getD-stored, level-at, level-inside, level-length}
@@ -42,18 +42,18 @@ use Rattle.tree.proofs.LevelsChosen.{chosen-each}
 
 -- ---- what access finds at each position
 
-found-from : (answer : ℕ → Outcome Found) (k i j : ℕ) → nowhere ≡ stopFrom answer k i → j < k
+found-from : (answer : ℕ → Outcome Found) (k i j : ℕ) → stopFrom answer k i ≡ gives tt → j < k
     → (f : Found) × (answer (i + j) ≡ gives f) × (getD (timesFrom answer k i) j 0 ≡ f .value)
 unfolding timesFrom stopFrom
 found-from answer zero i j e h = absurd (omega arith)
 found-from answer (suc k) i j e h = go (answer i) refl e j h (found-from answer k (suc i))
   where
-    go : (x : Outcome Found) → answer i ≡ x → nowhere ≡ follow (at i) x (λ f. stopFrom answer k (suc i)) → (j : ℕ) → j < suc k
-        → ((j : ℕ) → nowhere ≡ stopFrom answer k (suc i) → j < k → (f : Found) × (answer (suc i + j) ≡ gives f) × (getD (timesFrom answer k (suc i)) j 0 ≡ f .value))
+    go : (x : Outcome Found) → answer i ≡ x → after x (λ f. stopFrom answer k (suc i)) ≡ gives tt → (j : ℕ) → j < suc k
+        → ((j : ℕ) → stopFrom answer k (suc i) ≡ gives tt → j < k → (f : Found) × (answer (suc i + j) ≡ gives f) × (getD (timesFrom answer k (suc i)) j 0 ≡ f .value))
         → (f : Found) × (answer (i + j) ≡ gives f) × (getD (follow (λ r c. []) x (λ f. f .value ∷ timesFrom answer k (suc i))) j 0 ≡ f .value)
     go (gives f) p q zero l r = (f, rw (add-zero i) p, refl)
     go (gives f) p q (suc j) l r = let s : suc i + j ≡ i + suc j = omega arith in rw s at (r j q (omega arith))
-    go (refuses x c) p q j l r = absurd (let z : _≡_ {A = ℕ} 0 1 = cc in omega arith)
+    go (refuses x c) p q j l r = absurd (gives-refuses (sym q))
 
 -- the last node of a walk that is not refused has a time
 met-last : {A : Type 0} (time : ℕ → Outcome ℕ) (d : ℕ) (a b : A) (vs : List ℕ) → 1 ≤ length vs → met time vs a ≡ gives b → time (lastOf d vs) ≡ gives (known (time (lastOf d vs)))
@@ -73,12 +73,12 @@ met-last time d a b (v ∷ w ∷ vs) h e = go (time v) e (met-last time v a b (w
 
 -- ---- the nodes
 
-module _ (levels : Levels) (s : List ℕ) (whole : nowhere ≡ stopAll levels s) where
+module _ (levels : Levels) (s : List ℕ) (whole : stopAll levels s ≡ gives tt) where
   abbrev list : List ℕ
   list = timesAll levels s
 
   list-length : length list ≡ levels .pins
-  list-length = rw (zero-add (length list)) at (times-end (accesses levels s) (levels .pins) 0) ∙ rw (← whole) (zero-add (levels .pins))
+  list-length = times-all (accesses levels s) (levels .pins) 0 whole
 
   node-time : (v : ℕ) → 1 ≤ v → v ≤ levels .pins → timesIn levels s v ≡ gives (timeOf list v)
   unfolding timeOf accessAnswer

@@ -5,79 +5,71 @@ use mathlib.Core.List.{List, [], _∷_, _++_, append-nil}
 use Prim.Native.Nat.{ℕ, zero, suc, _+_, _-_, _*_, _≤_, _<_}
 use native.Mathlib.Nat.{zero-add, add-zero, add-suc}
 use native.Mathlib.Omega.{arith}
-use lib.ListN.{length, set, getD}
+use lib.ListN.{length, set, getD, length-append}
 use borrow.Author.Tests.{lt-ltb, le-ltb}
 use Rattle.tree.specs.declared.nodes.Levels.{Levels}
 use Rattle.tree.specs.Shape.{rootPlace, childOf, sideOf, rank}
 use Rattle.tree.specs.Stored.{timeOf}
 use Rattle.tree.specs.declared.walking.Found.{Found}
-use Rattle.tree.specs.Outcomes.{Outcome, gives, refuses, follow}
+use Rattle.tree.specs.Outcomes.{Outcome, gives, refuses, follow, after, Test}
 use Rattle.tree.specs.Times.{timesIn}
 use Rattle.tree.specs.Walks.{found, toward, accessAnswer}
 use Rattle.tree.specs.Buffers.{replaced}
-use Rattle.tree.specs.Listing.{Stop, nowhere, at as stop-at, accesses, timesFrom, stopFrom, endOf, timesAll, stopAll}
+use Rattle.tree.specs.Listing.{accesses, timesFrom, stopFrom, timesAll, stopAll}
 use Rattle.tree.specs.Standing.{Stands, Reaches}
 use Rattle.tree.specs.Merged.{KnownRanks}
+use Rattle.tree.proofs.Outcomes.{gives-refuses}
 use Rattle.tree.proofs.Buffers.{replaced-around}
 use Rattle.tree.proofs.Paths.{access-answer}
 use Rattle.tree.proofs.Steps.{stands-place, stands-rank, stands-node, stands-child, access-end, access-refused, access-step}
 
--- what a later stretch adds, where the listing gets to it
-abbrev orLater : Stop → Stop → Stop
-orLater nowhere later = later
-orLater (stop-at i r c) later = stop-at i r c
-
-abbrev unlessAt : Stop → List ℕ → List ℕ
-unlessAt nowhere later = later
-unlessAt (stop-at i r c) later = []
+-- the times of a stretch, where the listing gets to it
+abbrev unlessRefused : Test → List ℕ → List ℕ
+unlessRefused z later = follow (λ r c. []) z (λ _. later)
 
 module _ (answer : ℕ → Outcome Found) where
-  pub times-end : (k i : ℕ) → i + length (timesFrom answer k i) ≡ endOf (stopFrom answer k i) (i + k)
+  -- where nothing is refused every position has a time
+  pub times-all : (k i : ℕ) → stopFrom answer k i ≡ gives tt → length (timesFrom answer k i) ≡ k
   unfolding timesFrom stopFrom
-  times-end zero i = refl
-  times-end (suc k) i = go (answer i) (timesFrom answer k (suc i)) (stopFrom answer k (suc i)) (times-end k (suc i))
+  times-all zero i e = refl
+  times-all (suc k) i e = go (answer i) e (times-all k (suc i))
     where
-      at-end : (z : Stop) → endOf z (suc i + k) ≡ endOf z (i + suc k)
-      at-end nowhere = omega arith
-      at-end (stop-at j r c) = refl
-
-      go : (x : Outcome Found) (ts : List ℕ) (z : Stop) → suc i + length ts ≡ endOf z (suc i + k)
-          → i + length (follow (λ r c. []) x (λ f. f .value ∷ ts)) ≡ endOf (follow (stop-at i) x (λ f. z)) (i + suc k)
-      go (gives f) ts z e = let one : i + suc (length ts) ≡ suc i + length ts = omega arith in one ∙ e ∙ at-end z
-      go (refuses r c) ts z e = omega arith
+      go : (x : Outcome Found) → after x (λ f. stopFrom answer k (suc i)) ≡ gives tt → (stopFrom answer k (suc i) ≡ gives tt → length (timesFrom answer k (suc i)) ≡ k)
+          → length (follow (λ r c. []) x (λ f. f .value ∷ timesFrom answer k (suc i))) ≡ suc k
+      go (gives f) q later = ap suc (later q)
+      go (refuses r c) q later = absurd (gives-refuses (sym q))
 
   -- two stretches one after the other
-  listed-both : (a b i : ℕ) → (stopFrom answer (b + a) i ≡ orLater (stopFrom answer a i) (stopFrom answer b (i + a)))
-      × (timesFrom answer (b + a) i ≡ timesFrom answer a i ++ unlessAt (stopFrom answer a i) (timesFrom answer b (i + a)))
+  listed-both : (a b i : ℕ) → (stopFrom answer (b + a) i ≡ after (stopFrom answer a i) (λ _. stopFrom answer b (i + a)))
+      × (timesFrom answer (b + a) i ≡ timesFrom answer a i ++ unlessRefused (stopFrom answer a i) (timesFrom answer b (i + a)))
   unfolding timesFrom stopFrom
   listed-both zero b i = rw (add-zero b, add-zero i) (refl, refl)
-  listed-both (suc a) b i =
-      let e : suc i + a ≡ i + suc a = omega arith in
-      rw (add-suc b a) (go (answer i) _ (stopFrom answer a (suc i)) _ (timesFrom answer a (suc i)) (rw e at (listed-both a b (suc i))))
+  listed-both (suc a) b i = let e : suc i + a ≡ i + suc a = omega arith in rw (add-suc b a) (go (answer i) (rw e at (listed-both a b (suc i))))
     where
-      go : (x : Outcome Found) (z first : Stop) (all ts : List ℕ)
-          → (z ≡ orLater first (stopFrom answer b (i + suc a))) × (all ≡ ts ++ unlessAt first (timesFrom answer b (i + suc a)))
-          → let stopped = follow (stop-at i) x (λ f. first) in
-          (follow (stop-at i) x (λ f. z) ≡ orLater stopped (stopFrom answer b (i + suc a)))
-          × (follow (λ r c. []) x (λ f. f .value ∷ all) ≡ follow (λ r c. []) x (λ f. f .value ∷ ts) ++ unlessAt stopped (timesFrom answer b (i + suc a)))
-      go (gives f) z first all ts e = (e .0, ap (λ (l : List ℕ). f .value ∷ l) (e .1))
-      go (refuses r c) z first all ts e = (refl, refl)
+      go : (x : Outcome Found)
+          → (stopFrom answer (b + a) (suc i) ≡ after (stopFrom answer a (suc i)) (λ _. stopFrom answer b (i + suc a)))
+          × (timesFrom answer (b + a) (suc i) ≡ timesFrom answer a (suc i) ++ unlessRefused (stopFrom answer a (suc i)) (timesFrom answer b (i + suc a)))
+          → (after x (λ f. stopFrom answer (b + a) (suc i)) ≡ after (after x (λ f. stopFrom answer a (suc i))) (λ _. stopFrom answer b (i + suc a)))
+          × (follow (λ r c. []) x (λ f. f .value ∷ timesFrom answer (b + a) (suc i))
+          ≡ follow (λ r c. []) x (λ f. f .value ∷ timesFrom answer a (suc i)) ++ unlessRefused (after x (λ f. stopFrom answer a (suc i))) (timesFrom answer b (i + suc a)))
+      go (gives f) e = (e .0, ap (λ (l : List ℕ). f .value ∷ l) (e .1))
+      go (refuses r c) e = (refl, refl)
 
   -- a position between them that has a time
-  listed-around : (a b i x k : ℕ) → answer (i + a) ≡ gives (found x k) → (stopFrom answer (suc b + a) i ≡ orLater (stopFrom answer a i) (stopFrom answer b (suc (i + a))))
-      × (timesFrom answer (suc b + a) i ≡ timesFrom answer a i ++ unlessAt (stopFrom answer a i) (x ∷ timesFrom answer b (suc (i + a))))
+  listed-around : (a b i x k : ℕ) → answer (i + a) ≡ gives (found x k) → (stopFrom answer (suc b + a) i ≡ after (stopFrom answer a i) (λ _. stopFrom answer b (suc (i + a))))
+      × (timesFrom answer (suc b + a) i ≡ timesFrom answer a i ++ unlessRefused (stopFrom answer a i) (x ∷ timesFrom answer b (suc (i + a))))
   unfolding timesFrom stopFrom
   listed-around a b i x k e = rw e at (listed-both a (suc b) i)
 
   -- a refusal at the first position
-  listed-here : (k i r c : ℕ) → 1 ≤ k → answer i ≡ refuses r c → (stopFrom answer k i ≡ stop-at i r c) × (timesFrom answer k i ≡ [])
+  listed-here : (k i r c : ℕ) → 1 ≤ k → answer i ≡ refuses r c → (stopFrom answer k i ≡ refuses r c) × (timesFrom answer k i ≡ [])
   unfolding timesFrom stopFrom
   listed-here zero i r c h e = absurd (omega arith)
   listed-here (suc k) i r c h e = rw e (refl, refl)
 
   -- where access finds the times of a list
   times-found : (xs : List ℕ) (i : ℕ) (nodes : ℕ → ℕ) → ((j : ℕ) → j < length xs → answer (i + j) ≡ gives (found (getD xs j 0) (nodes j)))
-      → (timesFrom answer (length xs) i ≡ xs) × (stopFrom answer (length xs) i ≡ nowhere)
+      → (timesFrom answer (length xs) i ≡ xs) × (stopFrom answer (length xs) i ≡ gives tt)
   unfolding timesFrom stopFrom
   times-found [] i nodes h = (refl, refl)
   times-found (x ∷ xs) i nodes h =
@@ -87,16 +79,16 @@ module _ (answer : ℕ → Outcome Found) where
 
 -- where every node of the list's tree has its time
 pub times-known : (xs : List ℕ) (time : ℕ → Outcome ℕ) → ((v : ℕ) → 1 ≤ v → v ≤ length xs → time v ≡ gives (timeOf xs v))
-    → let answer = accessAnswer (length xs) time in (timesFrom answer (length xs) 0 ≡ xs) × (stopFrom answer (length xs) 0 ≡ nowhere)
+    → let answer = accessAnswer (length xs) time in (timesFrom answer (length xs) 0 ≡ xs) × (stopFrom answer (length xs) 0 ≡ gives tt)
 times-known xs time fine =
     times-found (accessAnswer (length xs) time) xs 0 (λ j. length (toward (length xs) j)) (λ j h. rw (zero-add j) (access-answer xs time fine j h))
 
 -- where they stand at their ranks
 pub ranks-known : (levels : Levels) (s list : List ℕ) → levels .pins ≡ length list → KnownRanks levels s (levels .pins) list
-    → (timesAll levels s ≡ list) × (stopAll levels s ≡ nowhere)
+    → (timesAll levels s ≡ list) × (stopAll levels s ≡ gives tt)
 unfolding timeOf
 ranks-known levels s list pins known =
-    subst (λ (k : ℕ). let answer = accessAnswer k (timesIn levels s) in (timesFrom answer k 0 ≡ list) × (stopFrom answer k 0 ≡ nowhere)) (sym pins)
+    subst (λ (k : ℕ). let answer = accessAnswer k (timesIn levels s) in (timesFrom answer k 0 ≡ list) × (stopFrom answer k 0 ≡ gives tt)) (sym pins)
     (times-known list (timesIn levels s) (λ v a b. rw (← pins) (known v a (rw pins b))))
 
 -- ---- at a node
@@ -107,7 +99,7 @@ module _ {levels : Levels} {s : List ℕ} {v depth start pins above : ℕ}
   node = stands-node w some
 
   pub listed-refused : (r u : ℕ) → timesIn levels s v ≡ refuses r u
-      → (stopFrom (accesses levels s) pins start ≡ stop-at start r u) × (timesFrom (accesses levels s) pins start ≡ [])
+      → (stopFrom (accesses levels s) pins start ≡ refuses r u) × (timesFrom (accesses levels s) pins start ≡ [])
   listed-refused r u e =
       listed-here (accesses levels s) pins start r u some
       (sym (reach start (omega arith) (omega arith)) ∙ access-refused (levels .pins) (timesIn levels s) start depth v r u (w .one) node e)
@@ -151,38 +143,38 @@ module _ {levels : Levels} {s : List ℕ} {v depth start pins above : ℕ}
           sym (reach (start + (place - 1)) (omega arith) (omega (arith, place-is)))
           ∙ access-end (levels .pins) (timesIn levels s) (start + (place - 1)) depth v x (w .one) node e rank-is
 
-      stop-is : stopFrom (accesses levels s) pins start ≡ orLater (stopFrom (accesses levels s) (place - 1) start) (stopFrom (accesses levels s) (pins - place) (start + place))
-      stop-is = rw (split, next) at (listed-around (accesses levels s) (place - 1) (pins - place) start x (depth + 1) time-here .0)
+      abbrev first : Test
+      first = stopFrom (accesses levels s) (place - 1) start
 
-      times-are : timesFrom (accesses levels s) pins start
-          ≡ timesFrom (accesses levels s) (place - 1) start ++ unlessAt (stopFrom (accesses levels s) (place - 1) start) (x ∷ timesFrom (accesses levels s) (pins - place) (start + place))
-      times-are = rw (split, next) at (listed-around (accesses levels s) (place - 1) (pins - place) start x (depth + 1) time-here .1)
+      abbrev before-it : List ℕ
+      before-it = timesFrom (accesses levels s) (place - 1) start
+
+      abbrev after-it : List ℕ
+      after-it = timesFrom (accesses levels s) (pins - place) (start + place)
+
+      both : (stopFrom (accesses levels s) pins start ≡ after first (λ _. stopFrom (accesses levels s) (pins - place) (start + place)))
+          × (timesFrom (accesses levels s) pins start ≡ before-it ++ unlessRefused first (x ∷ after-it))
+      both = rw (split, next) at (listed-around (accesses levels s) (place - 1) (pins - place) start x (depth + 1) time-here)
 
       -- the left side ends the listing
-      pub listed-left : (z : Stop) (i r c : ℕ) → z ≡ stop-at i r c → z ≡ stopFrom (accesses levels s) (place - 1) start
-          → (stop-at i r c ≡ stopFrom (accesses levels s) pins start) × (left ≡ replaced before start (timesFrom (accesses levels s) pins start))
-      listed-left z i r c a b =
-          let q : stopFrom (accesses levels s) (place - 1) start ≡ stop-at i r c = sym b ∙ a in (
-            sym (stop-is ∙ ap (λ (y : Stop). orLater y (stopFrom (accesses levels s) (pins - place) (start + place))) q),
-            done ∙ ap (replaced before start) (sym (times-are
-                ∙ ap (λ (y : Stop). timesFrom (accesses levels s) (place - 1) start ++ unlessAt y (x ∷ timesFrom (accesses levels s) (pins - place) (start + place))) q
-                ∙ append-nil (timesFrom (accesses levels s) (place - 1) start))),
-          )
+      pub listed-left : {i r c : ℕ} → refuses r c ≡ first → i ≡ start + length before-it
+          → (refuses r c ≡ stopFrom (accesses levels s) pins start) × (i ≡ start + length (timesFrom (accesses levels s) pins start))
+          × (left ≡ replaced before start (timesFrom (accesses levels s) pins start))
+      listed-left q e =
+          let times : timesFrom (accesses levels s) pins start ≡ before-it = both .1 ∙ rw (← q) (append-nil before-it) in
+          (sym (both .0 ∙ rw (← q)), rw times e, rw times done)
 
       -- the right side ends it, or nothing does
-      pub listed-right : {y : Stop} → y ≡ nowhere → y ≡ stopFrom (accesses levels s) (place - 1) start → start + pins ≤ length before → (z : Stop) (after : List ℕ)
-          → z ≡ stopFrom (accesses levels s) (pins - place) (start + place)
-          → after ≡ replaced (set left (start + place - 1) x) (start + place) (timesFrom (accesses levels s) (pins - place) (start + place))
-          → (z ≡ stopFrom (accesses levels s) pins start) × (after ≡ replaced before start (timesFrom (accesses levels s) pins start))
-      listed-right none same room z after a b =
-          let q = sym none ∙ same in
-          let k : start + (place - 1) ≡ endOf (stopFrom (accesses levels s) (place - 1) start) (start + (place - 1)) = ap (λ (y : Stop). endOf y (start + (place - 1))) q in
-          let l : start + length (timesFrom (accesses levels s) (place - 1) start) ≡ start + place - 1 =
-          times-end (accesses levels s) (place - 1) start ∙ sym k ∙ omega (arith, place-is) in
+      pub listed-right : gives tt ≡ first → start + pins ≤ length before → {z : Test} {i : ℕ} {after : List ℕ}
+          → z ≡ stopFrom (accesses levels s) (pins - place) (start + place) → i ≡ start + place + length after-it
+          → after ≡ replaced (set left (start + place - 1) x) (start + place) after-it
+          → (z ≡ stopFrom (accesses levels s) pins start) × (i ≡ start + length (timesFrom (accesses levels s) pins start))
+          × (after ≡ replaced before start (timesFrom (accesses levels s) pins start))
+      listed-right q room a e b =
+          let times : timesFrom (accesses levels s) pins start ≡ before-it ++ x ∷ after-it = both .1 ∙ rw (← q) in
+          let l = times-all (accesses levels s) (place - 1) start (sym q) in
           let n : start + place - 1 + 1 ≡ start + place = omega (arith, place-is) in (
-            a ∙ sym (stop-is ∙ ap (λ (y : Stop). orLater y (stopFrom (accesses levels s) (pins - place) (start + place))) (sym q)),
-            b ∙ rw done (rw n at (replaced-around before start (start + place - 1) (timesFrom (accesses levels s) (place - 1) start) x
-                (timesFrom (accesses levels s) (pins - place) (start + place)) l (omega (arith, place-is))))
-                ∙ ap (replaced before start) (sym (times-are
-                ∙ ap (λ (y : Stop). timesFrom (accesses levels s) (place - 1) start ++ unlessAt y (x ∷ timesFrom (accesses levels s) (pins - place) (start + place))) (sym q))),
+            a ∙ sym (both .0 ∙ rw (← q)),
+            rw times (e ∙ omega (arith, place-is, l, length-append before-it (x ∷ after-it))),
+            rw times (b ∙ rw done (rw n at (replaced-around before start (start + place - 1) before-it x after-it (omega (arith, place-is, l)) (omega (arith, place-is))))),
           )

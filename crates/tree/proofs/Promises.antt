@@ -2,7 +2,7 @@
 use mathlib.Core.Path.{_≡_, sym, ap, subst, _∙_}
 use mathlib.Core.List.{List}
 use Prim.Native.Nat.{ℕ, zero, suc, _-_, _^_, _≤_, min}
-use native.Mathlib.Nat.{le-refl, zero-add}
+use native.Mathlib.Nat.{le-refl}
 use native.Mathlib.Omega.{arith}
 use lib.Dec.{eqb, ltb}
 use lib.ListN.{length}
@@ -13,7 +13,7 @@ use Rattle.tree.specs.Shape.{rank}
 use Rattle.tree.specs.Levels.{firstOf, levelOf, fetchedAt}
 use Rattle.tree.specs.declared.walking.Found.{Found}
 use Rattle.tree.specs.Times.{timesIn}
-use Rattle.tree.specs.Listing.{timesFrom}
+use Rattle.tree.specs.Listing.{accesses}
 use Rattle.tree.specs.Walks.{toward, accessAnswer}
 use Rattle.tree.specs.Promises.{HeightLeast, Shape, Contents, HeldReads, DifferentFew, AccessOpens, StoredLevels, ListingFinds, ChosenStored, StoredChosen, DecodedChosen, ZeroMarks, SweepRises}
 use Rattle.tree.proofs.Heights.{digits, height-bound, height-le, height-is}
@@ -25,7 +25,7 @@ use Rattle.tree.proofs.Walks.{walk-length, toward-on, met-gives}
 use Rattle.tree.proofs.Paths.{toward-rank, rank-once, fromRoot-length, access-answer, search-path, search-answer}
 use Rattle.tree.proofs.Sweeps.{sweep-positions, sweep-answer, sweep-once, sweep-sums, different-pins, different-heights}
 use Rattle.tree.proofs.Contents.{times-back}
-use Rattle.tree.proofs.Listings.{times-end, times-known}
+use Rattle.tree.proofs.Listings.{times-all, times-known}
 use Rattle.tree.proofs.TimeBounds.{times-within}
 use Rattle.tree.proofs.ListedValues.{listed-chosen}
 use Rattle.tree.proofs.LevelMarks.{marks-zero}
@@ -103,8 +103,8 @@ stored-levels = record { count = length-stored; within = stored-within; level-wi
 
 pub listing-finds : ListingFinds
 listing-finds = record {
-  count = λ answer k. rw (zero-add (length (timesFrom answer k 0)), zero-add k) at (times-end answer k 0);
-  within = λ levels s k. times-within levels s k 0;
+  within = λ levels s. times-within levels s (levels .pins) 0;
+  count = λ levels s. times-all (accesses levels s) (levels .pins) 0;
 }
 
 pub chosen-stored : ChosenStored

@@ -21,7 +21,7 @@ use Rattle.tree.specs.LevelMarks.{LevelMarks}
 use Rattle.tree.specs.declared.walking.Found.{Found}
 use Rattle.tree.specs.Outcomes.{Outcome, gives}
 use Rattle.tree.specs.Times.{timesIn}
-use Rattle.tree.specs.Listing.{nowhere, accesses, timesFrom, stopFrom, timesAll, stopAll, endOf}
+use Rattle.tree.specs.Listing.{accesses, timesFrom, stopFrom, timesAll, stopAll}
 use Rattle.tree.specs.DecodedLevels.{decodedLevels, Decodes}
 use Rattle.tree.specs.Chosen.{allChosen}
 use Rattle.tree.specs.Walks.{walk, found, toward, accessAnswer, searchNodes, searchAnswer, path, fromRoot}
@@ -63,7 +63,7 @@ pub record Contents (n : ℕ) (time : ℕ → Outcome ℕ) (xs : List ℕ) : Typ
   -- access at i gives time i, and so all positions are listed
   pub access : (i : ℕ) → i < length xs → accessAnswer n time i ≡ gives (found (getD xs i 0) (length (toward (length xs) i)))
   pub times : timesFrom (accessAnswer n time) n 0 ≡ xs
-  pub stop : stopFrom (accessAnswer n time) n 0 ≡ nowhere
+  pub stop : stopFrom (accessAnswer n time) n 0 ≡ gives tt
   -- a search opens the nodes of its path, which goes on after an equal time, and counts them; it gives the number of times smaller than its
   -- target, so the first pin of a chord
   pub path-nodes : (t : ℕ) → searchNodes n time t 1 ≡ path xs t
@@ -100,15 +100,15 @@ pub record StoredLevels : Type 0 where
   pub half : (values : List ℕ) (l : ℕ) → 2 * length (levelValues values l) ≤ length values + 1
   pub above : (values : List ℕ) (d : ℕ) → min (length values) (2 ^ d - 1) + length (levelValues values (suc d)) ≤ min (length values) (2 ^ suc d - 1)
 
--- 6. A listing has a time for each position before the one where it ends, each of 32 bits.
+-- 6. Every time that is listed has 32 bits. Where nothing is refused every position has one.
 pub record ListingFinds : Type 0 where
-  pub count : (answer : ℕ → Outcome Found) (k : ℕ) → length (timesFrom answer k 0) ≡ endOf (stopFrom answer k 0) k
-  pub within : (levels : Levels) (s : List ℕ) (k : ℕ) → Within 32 (timesFrom (accesses levels s) k 0)
+  pub within : (levels : Levels) (s : List ℕ) → Within 32 (timesAll levels s)
+  pub count : (levels : Levels) (s : List ℕ) → stopAll levels s ≡ gives tt → length (timesAll levels s) ≡ levels .pins
 
 -- 7. Where the levels are what pack writes for the values that they are decoded to, and every position has a time, these values are what
 -- the tree of the listed times stores.
 abbrev pub ChosenStored : Type 0
-ChosenStored = (levels : Levels) (s : List ℕ) → allChosen levels s ≡ true → nowhere ≡ stopAll levels s
+ChosenStored = (levels : Levels) (s : List ℕ) → allChosen levels s ≡ true → stopAll levels s ≡ gives tt
     → (l : ℕ) → 1 ≤ l → l ≤ height (levels .pins)
     → let vs = levelValues (storedValues (timesAll levels s)) l in
     (chosen vs .code ≡ codeOf levels l) × (part (codeOf levels l) vs ≡ partOf levels s l)

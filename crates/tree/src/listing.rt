@@ -12,7 +12,7 @@ ghost use Prim.Native.Nat.{_≤_};
 ghost use lib.ListN.{length};
 ghost use Rattle.tree.specs.Levels.{Fits};
 ghost use Rattle.tree.specs.Buffers.{replaced, filledTo};
-ghost use Rattle.tree.specs.Listing.{accesses, timesFrom, stopFrom, timesAll, stopAll, listed};
+ghost use Rattle.tree.specs.Listing.{accesses, timesFrom, timesAll, Lists};
 ghost use Rattle.tree.specs.Standing.{Stands, Reaches};
 ghost use Rattle.tree.specs.DecodedLevels.{Decodes};
 
@@ -39,7 +39,7 @@ fn list_under(
     requires { ⌜ Fits levels (now s) × (levels .pins ≤ length (now times)) ⌝ }
     requires { ⌜ Stands levels (now s) v depth (record { start = start; pins = pins }) above ⌝ }
     requires { ⌜ Reaches levels (now s) v depth (record { start = start; pins = pins }) ⌝ }
-    ensures { λ r. ⌜ listed r ≡ stopFrom (accesses levels (now (s .entry))) pins start ⌝ }
+    ensures { λ r. ⌜ Lists (accesses levels (now (s .entry))) pins start r ⌝ }
     ensures { λ r. ⌜ now (times .exit) ≡ replaced (now (times .entry)) start (timesFrom (accesses levels (now (s .entry))) pins start) ⌝ }
 {
     if pins == 0 {
@@ -93,7 +93,7 @@ pub struct Listing {
 // are opened one by one.
 pub fn list(times: &mut [u32], values: &mut [u32], s: &[u8], levels: Levels) -> Listing
     requires { ⌜ Fits levels (now s) × (levels .pins ≡ length (now times)) × (levels .pins ≡ length (now values)) ⌝ }
-    ensures { λ r. ⌜ listed (r .listed) ≡ stopAll levels (now (s .entry)) ⌝ }
+    ensures { λ r. ⌜ Lists (accesses levels (now (s .entry))) (levels .pins) 0 (r .listed) ⌝ }
     ensures { λ r. ⌜ now (times .exit) ≡ filledTo (levels .pins) (timesAll levels (now (s .entry))) ⌝ }
     ensures { λ r. ⌜ Decodes levels (now (s .entry)) (r .decoded) (now (values .exit)) ⌝ }
 {

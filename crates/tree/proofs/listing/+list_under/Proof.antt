@@ -1,11 +1,14 @@
 -- The left side, the node and the right side are listed one after the other, and so are the accesses to their positions.
 use native.Mathlib.Omega.{arith}
 use mathlib.Core.Path.{_≡_, refl, sym, ap, _∙_}
+use mathlib.Core.List.{List}
 use Prim.Native.Nat.{ℕ, _+_, _-_, _≤_, _<_}
+use native.Mathlib.Nat.{add-zero}
 use lib.ListN.{length, set, length-set}
 use Rattle.tree.specs.Outcomes.{gives}
 use Rattle.tree.specs.Times.{timesIn}
-use Rattle.tree.specs.Listing.{timesFrom, stopFrom, listed}
+use Rattle.tree.specs.declared.listing.Listed.{Listed}
+use Rattle.tree.specs.Listing.{timesFrom, stopFrom, listed, endOf}
 use Rattle.tree.proofs.LevelMarks.{marks-zero}
 use Rattle.tree.proofs.NodeFetches.{Level}
 use Rattle.tree.proofs.Steps.{stands-node, stands-place, stands-level, stands-told, stands-time}
@@ -39,15 +42,22 @@ asked t = and 2 kinds.ps (falls 2 kinds.ps _<_ μ t) reads.Pre
 abbrev calls : ℕ → In 3 open-full-kinds.ps × Out 3 open-full-kinds.ps open-full-kinds.r × In 0 refusal-of-kinds.ps × Out 0 refusal-of-kinds.ps refusal-of-kinds.r × In 0 root-place-kinds.ps × Out 0 root-place-kinds.ps root-place-kinds.r × In 2 kinds.ps × Out 2 kinds.ps kinds.r
 calls t = (open-full-reads.Asked, open-full-reads.Learnt, refusal-of-reads.Asked, refusal-of-reads.Learnt, root-place-reads.Asked, root-place-reads.Learnt, asked t, reads.Post)
 
+abbrev Placed : ℕ → Type 0
+Placed t = lts.After-root-place (calls t) (given t) reads.Post
+
+-- the start, seen from where the node's place is known
+abbrev start : (t : ℕ) → Placed t → lts.Start (calls t) (given t) reads.Post
+start t c = c .before .before .before .before .before .before .before .before .before .before .before
+
 -- the time of the node
-time-is : (t : ℕ) (c : lts.Else2 (calls t) (given t) reads.Post) → let a = c .before .before .before .before .before .before .before .before .before .before .args in timesIn (a .t3) (a .s .now) (a .v) ≡ gives (c .before .before .open-full .result)
-time-is t c = stands-time (c .before .before .before .before .before .before .before .before .before .before .pre .1 .1 .0) (c .before .before .open-full .ensures .0) (omega arith)
+time-is : (t : ℕ) (c : Placed t) → let a = start t c .args in timesIn (a .t3) (a .s .now) (a .v) ≡ gives (c .before .before .before .open-full .result)
+time-is t c = stands-time (start t c .pre .1 .1 .0) (c .before .before .before .open-full .ensures .0) (omega arith)
 
 -- the node is one of the tree, and its level lies in the bytes; its place is in its stretch, and that in the list
-bounds : (t : ℕ) (c : lts.After-root-place (calls t) (given t) reads.Post) → let a = c .before .before .before .before .before .before .before .before .before .before .before .args in
+bounds : (t : ℕ) (c : Placed t) → let a = start t c .args in
     Level (a .t3) (a .s .now) (a .depth) × (a .v ≤ a .t3 .pins) × (1 ≤ c .root-place .result) × (c .root-place .result ≤ a .pins) × (a .start + a .pins ≤ a .t3 .pins)
 bounds t c =
-    let p = c .before .before .before .before .before .before .before .before .before .before .before .pre .1 in
+    let p = start t c .pre .1 in
     let node = stands-node (p .1 .0) (omega arith) in
     let place = rw (← (c .root-place .ensures)) at (stands-place (p .1 .0) node) in
     (stands-level (p .1 .0) (p .0 .0) node, node, place .0, place .1, p .1 .0 .inside)
@@ -56,7 +66,7 @@ returns : (t : ℕ) → lts.Need-returns (calls t) (given t) reads.Post
 unfolding stopFrom timesFrom
 returns t c =
     let a = c .before .before .before .args in
-    rw (c .if1 .taken) (refl, sym (replaced-none (a .times .now) (a .start)))
+    rw (c .if1 .taken) (record { outcome = refl; ends = refl }, sym (replaced-none (a .times .now) (a .start)))
 
 slice-aggregate-open-full : (t : ℕ) → lts.Need-slice-aggregate-open-full (calls t) (given t) reads.Post
 slice-aggregate-open-full t c = search needs
@@ -71,11 +81,15 @@ refusal-of-requires t c κs = search needs
 
 returns-2 : (t : ℕ) → lts.Need-returns-2 (calls t) (given t) reads.Post
 returns-2 t c =
-    let a = c .before .before .before .before .before .before .before .before .before .before .before .args in
-    let p = c .before .before .before .before .before .before .before .before .before .before .before .pre .1 .1 in
-    let e = stands-told (p .0) (c .before .before .before .open-full .result) (c .before .before .before .open-full .ensures .0) ∙ sym (c .refusal-of .ensures) in
+    let node = c .before .before .before in
+    let s = node .before .before .before .before .before .before .before .before in
+    let p = s .pre .1 .1 in
+    let e = stands-told (p .0) (node .open-full .result) (node .open-full .ensures .0) ∙ sym (c .refusal-of .ensures) in
     let z = listed-refused (p .0) (p .1) (omega arith) _ _ e in
-    (sym (z .0), sym (rw (z .1) (replaced-none (a .times .now) (a .start))))
+    (
+      record { outcome = sym (z .0); ends = sym (ap (λ (l : List ℕ). s .args .start + length l) (z .1) ∙ add-zero (s .args .start)) },
+      sym (rw (z .1) (replaced-none (s .args .times .now) (s .args .start))),
+    )
 
 cast-time : (t : ℕ) → lts.Need-cast-time (calls t) (given t) reads.Post
 cast-time t c = search needs
@@ -94,9 +108,9 @@ add-list-under t c = omega (arith, bounds t (c .before))
 
 list-under-requires : (t : ℕ) → lts.Need-list-under-requires (calls t) (given t) reads.Post
 list-under-requires t c κs =
-    let p = c .before .before .before .before .before .before .before .before .before .before .before .before .pre .1 in
-    let e = time-is t (c .before .before) in
-    (omega (arith, bounds t (c .before), c .before .before .before .before .before .before .before .before .before .before .before .before .pre .0), (p .0, stands-left (p .1 .0) (p .1 .1) (omega arith) _ e _ (c .before .root-place .ensures)))
+    let here = c .before in
+    let p = start t here .pre in
+    (omega (arith, bounds t here, p .0), (p .1 .0, stands-left (p .1 .1 .0) (p .1 .1 .1) (omega arith) _ (time-is t here) _ (here .root-place .ensures)))
 
 enum-told : (t : ℕ) → lts.Need-enum-told (calls t) (given t) reads.Post
 enum-told t c = search needs
@@ -109,10 +123,14 @@ same-length t c = c .before .before .before .before .before .list-under .kept .0
 
 returns-3 : (t : ℕ) → lts.Need-returns-3 (calls t) (given t) reads.Post
 returns-3 t c =
-    let p = c .before .before .before .before .before .before .before .before .before .before .before .before .before .before .before .before .before .before .pre .1 in
-    let e = time-is t (c .before .before .before .before .before .before .before .before) in
-    listed-left (p .1 .0) (p .1 .1) (omega arith) _ e _ (c .before .before .before .before .before .before .before .root-place .ensures) (c .before .before .before .before .before .before .before .before .before .before .before .before .before .before .before .before .before .before .args .times .now) (c .before .before .before .before .before .list-under .last .0) (c .before .before .before .before .before .list-under .ensures .1)
-    _ _ _ _ (ap listed (c .before .left .given .1)) (c .before .before .before .before .before .list-under .ensures .0)
+    let left = c .before .before .before .before .before in
+    let here = left .before .before in
+    let p = start t here .pre .1 in
+    let l = left .list-under .ensures .0 in
+    let is = c .before .left .given .1 in
+    let z = listed-left (p .1 .0) (p .1 .1) (omega arith) _ (time-is t here) _ (here .root-place .ensures) (start t here .args .times .now) (left .list-under .last .0) (left .list-under .ensures .1)
+    (sym (ap listed is) ∙ l .outcome) (sym (ap (λ (r : Listed). endOf r (start t here .args .start + (here .root-place .result - 1))) is) ∙ l .ends) in
+    (record { outcome = z .0; ends = z .1 }, z .2)
 
 add-at : (t : ℕ) → lts.Need-add-at (calls t) (given t) reads.Post
 add-at t c = omega (arith, bounds t (c .before .before .before .before .before .before))
@@ -124,7 +142,7 @@ mul-times : (t : ℕ) → lts.Need-mul-times (calls t) (given t) reads.Post
 mul-times t c = omega (arith, bounds t (c .before .before .before .before .before .before))
 
 slice-write-times : (t : ℕ) → lts.Need-slice-write-times (calls t) (given t) reads.Post
-slice-write-times t c = omega (arith, bounds t (c .before .before .before .before .before .before), c .before .before .before .before .before .before .before .before .before .before .before .before .before .before .before .before .before .pre .1 .0 .1, c .before .before .before .before .list-under .kept .0)
+slice-write-times t c = let here = c .before .before .before .before .before .before in omega (arith, bounds t here, start t here .pre .1 .0 .1, c .before .before .before .before .list-under .kept .0)
 
 add-list-under-2 : (t : ℕ) → lts.Need-add-list-under-2 (calls t) (given t) reads.Post
 add-list-under-2 t c = omega (arith, bounds t (c .before .before .before .before .before .before .before))
@@ -141,25 +159,33 @@ add-list-under-3 t c = omega (arith, bounds t (c .before .before .before .before
 add-list-under-4 : (t : ℕ) → lts.Need-add-list-under-4 (calls t) (given t) reads.Post
 add-list-under-4 t c = omega (arith, bounds t (c .before .before .before .before .before .before .before))
 
+-- as many times as before
+as-many : (t : ℕ) (c : lts.After-list-under (calls t) (given t) reads.Post) → let here = c .before .before in
+    length (set (c .list-under .last .0) (start t here .args .start + here .root-place .result - 1) (here .before .before .before .open-full .result)) ≡ length (start t here .args .times .now)
+as-many t c = length-set (c .list-under .last .0) _ _ ∙ c .list-under .kept .0
+
 list-under-requires-2 : (t : ℕ) → lts.Need-list-under-requires-2 (calls t) (given t) reads.Post
 list-under-requires-2 t c κs =
-    let a = c .before .before .before .before .before .before .before .before .before .before .before .before .before .before .before .before .before .before .args in
-    let p = c .before .before .before .before .before .before .before .before .before .before .before .before .before .before .before .before .before .before .pre .1 in
-    let e = time-is t (c .before .before .before .before .before .before .before .before) in
-    let room : a .t3 .pins ≤ length (set (c .before .before .before .before .before .list-under .last .0) (a .start + c .before .before .before .before .before .before .before .root-place .result - 1) (c .before .before .before .before .before .before .before .before .before .before .open-full .result)) =
-    omega (arith, length-set (c .before .before .before .before .before .list-under .last .0) (a .start + c .before .before .before .before .before .before .before .root-place .result - 1) (c .before .before .before .before .before .before .before .before .before .before .open-full .result), c .before .before .before .before .before .list-under .kept .0, p .0 .1) in
-    (omega (arith, bounds t (c .before .before .before .before .before .before .before), c .before .before .before .before .before .before .before .before .before .before .before .before .before .before .before .before .before .before .pre .0), ((p .0 .0, room), stands-right (p .1 .0) (p .1 .1) (omega arith) _ e _ (c .before .before .before .before .before .before .before .root-place .ensures)))
+    let left = c .before .before .before .before .before in
+    let here = left .before .before in
+    let p = start t here .pre in
+    (omega (arith, bounds t here, p .0), ((p .1 .0 .0, omega (arith, as-many t left, p .1 .0 .1)), stands-right (p .1 .1 .0) (p .1 .1 .1) (omega arith) _ (time-is t here) _ (here .root-place .ensures)))
 
 same-length-2 : (t : ℕ) → lts.Need-same-length-2 (calls t) (given t) reads.Post
-same-length-2 t c = c .before .before .list-under2 .kept .0 ∙ length-set (c .before .before .before .before .before .before .before .before .list-under .last .0) (c .before .before .before .before .before .before .before .before .before .before .before .before .before .before .before .before .before .before .before .before .before .args .start + c .before .before .before .before .before .before .before .before .before .before .root-place .result - 1) (c .before .before .before .before .before .before .before .before .before .before .before .before .before .open-full .result) ∙ c .before .before .before .before .before .before .before .before .list-under .kept .0
+same-length-2 t c = c .before .before .list-under2 .kept .0 ∙ as-many t (c .before .before .before .before .before .before .before .before)
 
 returns-4 : (t : ℕ) → lts.Need-returns-4 (calls t) (given t) reads.Post
 returns-4 t c =
-    let p = c .before .before .before .before .before .before .before .before .before .before .before .before .before .before .before .before .before .before .before .before .before .pre .1 in
-    let e = time-is t (c .before .before .before .before .before .before .before .before .before .before .before) in
-    listed-right (p .1 .0) (p .1 .1) (omega arith) _ e _ (c .before .before .before .before .before .before .before .before .before .before .root-place .ensures) (c .before .before .before .before .before .before .before .before .before .before .before .before .before .before .before .before .before .before .before .before .before .args .times .now) (c .before .before .before .before .before .before .before .before .list-under .last .0) (c .before .before .before .before .before .before .before .before .list-under .ensures .1)
-    (ap listed (c .before .before .before .before .enum-told .given .1)) (c .before .before .before .before .before .before .before .before .list-under .ensures .0) (omega (arith, p .1 .0 .inside, p .0 .1))
-    (listed (c .before .before .list-under2 .result)) (c .before .before .list-under2 .last .0) (c .before .before .list-under2 .ensures .0) (c .before .before .list-under2 .ensures .1)
+    let left = c .before .before .before .before .before .before .before .before in
+    let right = c .before .before .list-under2 in
+    let here = left .before .before in
+    let a = start t here .args in
+    let p = start t here .pre .1 in
+    let last : a .start + a .pins ≡ a .start + here .root-place .result + (a .pins - here .root-place .result) = omega (arith, bounds t here) in
+    let z = listed-right (p .1 .0) (p .1 .1) (omega (arith, bounds t here)) _ (time-is t here) _ (here .root-place .ensures) (a .times .now) (left .list-under .last .0) (left .list-under .ensures .1)
+    (sym (ap listed (c .before .before .before .before .enum-told .given .1)) ∙ left .list-under .ensures .0 .outcome) (omega (arith, p .1 .0 .inside, p .0 .1))
+    (right .ensures .0 .outcome) (ap (endOf (right .result)) last ∙ right .ensures .0 .ends) (right .ensures .1) in
+    (record { outcome = z .0; ends = z .1 }, z .2)
 
 pub +list-under-spec : {M : Type 1} → statement M
 +list-under-spec = close μ λ t. lts.spec (calls t)

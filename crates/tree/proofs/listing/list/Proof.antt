@@ -3,6 +3,7 @@ use native.Mathlib.Omega.{arith}
 use borrow.Author.Needs.{needs}
 use mathlib.Core.Path.{_≡_, sym, ap, _∙_}
 use mathlib.Core.Logic.{⊎-elim}
+use Prim.Native.Nat.{ℕ, _+_}
 use lib.ListN.{length}
 use Rattle.codes.specs.Decode.{all}
 use Rattle.tree.specs.Times.{timesIn}
@@ -40,7 +41,10 @@ returns c =
     let ranks = rw count at (m .ensures (c .if2 .taken) (a .levels) (a .s .now) (known-values (a .levels) (a .s .now) (d .last .0) own)) in
     let n : length (m .last .0) ≡ a .levels .pins = m .kept .0 ∙ sym (b .pre .1) in
     let z = ranks-known (a .levels) (a .s .now) (m .last .0) (sym n) ranks in
-    (sym (z .1), (rw (z .0) (sym (filled-whole (a .levels .pins) (m .last .0) n)), record { told = sym done; left = d .ensures .left }))
+    (
+      record { outcome = sym (z .1); ends = ap (λ (xs : ℕ). 0 + xs) (sym (ap length (z .0) ∙ n)) },
+      (rw (z .0) (sym (filled-whole (a .levels .pins) (m .last .0) n)), record { told = sym done; left = d .ensures .left }),
+    )
 
 -- as many entries as before
 same : (c : tie.Joined1) → length (c .if1 .times) ≡ length (c .before .before .before .before .before .before .before .before .args .times .now)
