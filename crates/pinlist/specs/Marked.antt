@@ -9,10 +9,10 @@ use Rattle.tree.specs.Shape.{height, rootPlace, childOf, stretchIn, stretch, ra
 use Rattle.tree.specs.Lists.{ordered}
 use Rattle.tree.specs.Stored.{timeOf, timeAbove, stored, storedFrom}
 use Rattle.tree.specs.Levels.{partOf, fetchedAt}
+use Rattle.tree.specs.Outcomes.{test, verdict}
 use Rattle.tree.specs.Times.{nodeTimeIn, nodeTime}
 use Rattle.tree.specs.Walks.{walkIn, walk, met, toward, lastOf, accessAnswer}
 use Rattle.tree.specs.Listing.{timesFrom}
-use Rattle.strip.specs.Outcomes.{verdict}
 use Rattle.strip.specs.Layout.{endAfter, filled, laidOut}
 use Rattle.strip.specs.Image.{codeFor, partFor, joined, stripOf}
 use Rattle.strip.specs.Opening.{codeTests, opening}
@@ -28,6 +28,6 @@ pub record Marked : Type 0 where
 pub marked : Marked
 unfolding bits number sum fixed numbers padded kindOf rest layers kindBits widthIn widest bestChunked chosen fixedAt fetchLayers chunkedAt fetched height
     rootPlace childOf stretchIn stretch rank ordered timeOf timeAbove stored storedFrom partOf fetchedAt nodeTimeIn nodeTime walkIn walk met toward lastOf
-    accessAnswer verdict endAfter filled laidOut codeFor partFor joined stripOf codeTests opening timesFrom positionsTests listIn checkOf plainList placesIn
+    accessAnswer test verdict endAfter filled laidOut codeFor partFor joined stripOf codeTests opening timesFrom positionsTests listIn checkOf plainList placesIn
     decimal numeral header line linesFrom refusalLine printed
 marked = record { listed = refl; refused = refl }

@@ -8,26 +8,28 @@ use Prim.Native.Nat.{ℕ, zero, suc, _≤_, _<_}
 use native.Mathlib.Nat.{le-refl}
 use native.Mathlib.Decide.{decLt}
 use native.Mathlib.Omega.{arith}
-use lib.Dec.{T, eqb, ltb}
+use lib.Dec.{T, eqb, ltb, leb}
 use lib.ListN.{length, take, drop, getD, length-map, drop-of-length-le}
 use lib.Seq.{take-at}
 use denote.Ref.{now}
-use borrow.Author.Tests.{eqb-false, ltb-false, not-false, ne-eqb, lt-ltb, le-ltb}
+use borrow.Author.Tests.{eqb-false, ltb-false, not-false, ne-eqb, le-ltb, lt-leb, le-leb}
 use lib.Ieee.Bits.{is-true}
 use Rattle.codes.specs.Lists.{atFront}
 use Rattle.codes.specs.Codes.{Within}
 use Rattle.tree.specs.declared.nodes.Levels.{Levels}
 use Rattle.tree.specs.Lists.{ordered, smaller}
-use Rattle.tree.specs.Walks.{Answer, found, stopped, toward, path}
-use Rattle.tree.specs.Sweeps.{Sweep, different}
-use Rattle.tree.specs.Promises.{Held}
-use Rattle.tree.proofs.Promises.{listing-finds, sweep-finds}
+use Rattle.tree.specs.declared.walking.Found.{Found}
+use Rattle.tree.specs.Outcomes.{Outcome, gives, refuses, after, test, verdict}
+use Rattle.tree.specs.Times.{timesIn}
+use Rattle.tree.specs.Walks.{found, toward, path}
+use Rattle.tree.specs.Sweeps.{different}
+use Rattle.tree.specs.Promises.{Held, Contents}
+use Rattle.tree.proofs.Promises.{held-reads, different-few, outcome-laws}
 use Rattle.strip.specs.declared.strip.Checked.{Checked}
 use Rattle.strip.specs.declared.strip.Checked.the-variants.{Pins, Refused}
 use Rattle.strip.specs.declared.strip.Swept.{Swept}
 use Rattle.strip.specs.declared.strip.Swept.the-variants as sweeping
 use Rattle.strip.specs.declared.walker.Walker.{Walker}
-use Rattle.strip.specs.Outcomes.{Outcome, gives, refuses, verdict, after}
 use Rattle.strip.specs.Layout.{maxPins}
 use Rattle.strip.specs.Image.{Packable, image}
 use Rattle.strip.specs.Opening.{opening}
@@ -35,7 +37,7 @@ use Rattle.strip.specs.Calls.{packOf, written, packOutput, searchOf, swe
 use Rattle.strip.specs.Promises.{Opens}
 use Rattle.strip.specs.Demands.{PacksTo, UnpacksTo, Accepted, CheckAccepts, CodeAccepts, Demand2, SweepsAs, CodeSweepsAs, Demand3, WalkerLists}
 use Rattle.codes.proofs.Lists.{same-lists, same-itself}
-use Rattle.strip.proofs.Verdicts.{gives-refuses, verdict-gives, verdict-passed}
+use Rattle.strip.proofs.Verdicts.{verdict-passed}
 use Rattle.strip.proofs.Sweeps.{targets-follow}
 use Rattle.strip.proofs.Readings.{check-all}
 use Rattle.strip.proofs.OpenImages.{open-packable}
@@ -45,7 +47,7 @@ use Rattle.strip.proofs.Promises.{image-opens, round-trip}
 -- ---- from a list to its strip
 
 packs : (xs : List ℕ) → Packable xs → (out : List ℕ) → length (image xs) ≤ length out → PacksTo xs (image xs) out
-unfolding packOf packOutput verdict
+unfolding packOf packOutput verdict test
 packs xs p out room =
     rw (ne-eqb (length xs) 0 (λ e. omega (arith, p .some)), le-ltb maxPins (length xs) (p .few), is-true (ordered xs) (p .in-order), le-ltb (length out) (length (image xs)) room)
     (refl, refl)
@@ -61,38 +63,40 @@ module _ (xs : List ℕ) (p : Packable xs) where
   held : Held levels (image xs) xs
   held = record { in-order = p .in-order; times = p .times; stores = opens .bits .stores }
 
+  reads : Contents (levels .pins) (timesIn levels (image xs)) xs
+  reads = held-reads levels (image xs) xs held
+
   list-back : listIn (image xs) levels ≡ xs
   unfolding listIn
-  list-back = listing-finds .times levels (image xs) xs held
+  list-back = reads .times
 
   plain-back : plainList (image xs) ≡ xs
   unfolding plainList
   plain-back = rw (opens .bits .opened) list-back
 
   check-back : checkOf (image xs) ≡ gives (length xs)
-  unfolding checkOf verdict
+  unfolding checkOf verdict test
   check-back =
-      let stop = listing-finds .stop levels (image xs) xs held in
       let o : ordered xs ≡ true = is-true (ordered xs) (p .in-order) in
-      rw (opens .bits .opened) (check-all (image xs) levels stop ∙ rw (list-back, o, same-itself (image xs)) (ap gives (held .stores .pins-are)))
+      rw (opens .bits .opened) (check-all (image xs) levels (reads .stop) ∙ rw (list-back, o, same-itself (image xs)) (ap gives (held .stores .pins-are)))
 
   unpacks-back : (out : List ℕ) → length xs ≤ length out → UnpacksTo (image xs) xs out
-  unfolding unpackOf unpackOutput verdict
+  unfolding unpackOf unpackOutput verdict test
   unpacks-back out room = rw (check-back, plain-back, le-ltb (length out) (length xs) room) (refl, refl)
 
-  -- a sweep of it gives the numbers of smaller times, and counts the different nodes
-  sweep-back : (ts : List ℕ) (room : ℕ) → room ≡ length ts → T (ordered ts)
-      → sweepOf (image xs) ts room ≡ record { positions = map (λ t. smaller t xs) ts; answer = found 0 (different xs ts) }
-  unfolding sweepOf
-  sweep-back ts room e o =
-      rw (opens .bits .opened) (targets-follow (image xs) ts room levels e (is-true (ordered ts) o) ∙ sweep-finds .answer levels (image xs) xs held ts o)
+  -- a sweep of it counts the different nodes, and leaves the numbers of smaller times
+  sweep-back : (ts answers : List ℕ) → length answers ≡ length ts → T (ordered ts)
+      → (sweepOf (image xs) ts (length answers) ≡ gives (different xs ts)) × (sweepOutput (image xs) ts answers ≡ atFront (map (λ t. smaller t xs) ts) answers)
+  unfolding sweepOf sweepOutput
+  sweep-back ts answers e o =
+      rw (opens .bits .opened, targets-follow levels ts (length answers) e (is-true (ordered ts) o), reads .sweep ts o, reads .positions ts o) (refl, refl)
 
 -- ---- from a strip to its list
 
 module _ (xs s out : List ℕ) (to : PacksTo xs s out) where
   length-is : length (image xs) ≡ length s
   unfolding packOf
-  length-is = verdict-gives _ (length (image xs)) (length s) (to .0)
+  length-is = outcome-laws .given _ (length (image xs)) (length s) (to .0)
 
   -- both stand at the front of the output
   image-is : s ≡ image xs
@@ -135,7 +139,7 @@ accepted s (n, e) = go (opening s) refl e
         let p = read-packable s levels o n c in
         let ys = xs s levels o n c in
         (ys, p .times, (image ys, subst (λ (l : List ℕ). PacksTo ys l (image ys)) (read-image s levels o n c) (packs ys p (image ys) (le-refl (length (image ys))))))
-    go (refuses r q) o c = absurd (gives-refuses (sym c))
+    go (refuses r q) o c = absurd (outcome-laws .never (sym c))
 
 counts : (s xs out : List ℕ) → Within 32 xs → PacksTo xs s out → checkOf s ≡ gives (length xs)
 counts s xs out w to = ap checkOf (image-is xs s out to) ∙ check-back xs (packable xs s out to w)
@@ -145,7 +149,7 @@ check-accepts s (xs, w, (out, to)) = (length xs, counts s xs out w to)
 
 code-accepts : (s : List ℕ) (r : Checked) → checked r ≡ checkOf s → CodeAccepts r ↔ Accepted s
 code-accepts s (Pins n) e = (λ _. accepted s (n, sym e), λ _. tt)
-code-accepts s (Refused r) e = (λ h. absurd h, λ a. gives-refuses (sym (e ∙ check-accepts s a .1)))
+code-accepts s (Refused r) e = (λ h. absurd h, λ a. outcome-laws .never (sym (e ∙ check-accepts s a .1)))
 
 one-list : (s xs out : List ℕ) → Within 32 xs → PacksTo xs s out → Packable xs × (xs ≡ plainList s)
 one-list s xs out w to =
@@ -155,10 +159,10 @@ one-list s xs out w to =
 pin-count : (s : List ℕ) → Accepted s → checkOf s ≡ gives (length (plainList s))
 pin-count s (xs, w, (out, to)) = counts s xs out w to ∙ ap (λ (l : List ℕ). gives (length l)) (one-list s xs out w to .1)
 
-searches : (s : List ℕ) → Accepted s → (t : ℕ) → searchOf s t ≡ found (smaller t (plainList s)) (length (path (plainList s) t))
+searches : (s : List ℕ) → Accepted s → (t : ℕ) → searchOf s t ≡ gives (found (smaller t (plainList s)) (length (path (plainList s) t)))
 searches s (xs, w, (out, to)) t =
     let one = one-list s xs out w to in
-    ap (λ (l : List ℕ). searchOf l t) (image-is xs s out to) ∙ round-trip xs (one .0) .search t ∙ ap (λ (l : List ℕ). found (smaller t l) (length (path l t))) (one .1)
+    ap (λ (l : List ℕ). searchOf l t) (image-is xs s out to) ∙ round-trip xs (one .0) .search t ∙ ap (λ (l : List ℕ). gives (found (smaller t l) (length (path l t)))) (one .1)
 
 pub demand-2 : Demand2
 demand-2 = record {
@@ -175,12 +179,6 @@ demand-2 = record {
 
 -- ---- sweep
 
-found-same : {x y k m : ℕ} → found x k ≡ found y m → k ≡ m
-found-same e = cc
-
-found-stopped : {x k r c : ℕ} → found x k ≡ stopped r c → ⊥
-found-stopped e = let z : _≡_ {A = ℕ} 0 1 = cc in omega arith
-
 -- in range, whatever f gives at 0
 map-at : (f : ℕ → ℕ) (ts : List ℕ) (i : ℕ) → i < length ts → getD (map f ts) i 0 ≡ f (getD ts i 0)
 map-at f [] i h = absurd (omega arith)
@@ -191,18 +189,16 @@ module _ (s ts answers : List ℕ) (a : Accepted s) (o : T (ordered ts)) (e : le
   abbrev positions : List ℕ
   positions = map (λ t. smaller t (plainList s)) ts
 
-  swept-as : sweepOf s ts (length answers) ≡ record { positions = positions; answer = found 0 (different (plainList s) ts) }
+  swept-as : (sweepOf s ts (length answers) ≡ gives (different (plainList s) ts)) × (sweepOutput s ts answers ≡ atFront positions answers)
   swept-as =
       let (xs, w, (out, to)) = a in
       let one = one-list s xs out w to in
-      ap (λ (l : List ℕ). sweepOf l ts (length answers)) (image-is xs s out to) ∙ sweep-back xs (one .0) ts (length answers) e o
-      ∙ ap (λ (l : List ℕ). record { positions = map (λ t. smaller t l) ts; answer = found 0 (different l ts) }) (one .1)
+      rw (← (one .1), image-is xs s out to) (sweep-back xs (one .0) ts answers e o)
 
   -- the answers hold the positions and nothing else
   answers-are : sweepOutput s ts answers ≡ positions
-  unfolding sweepOutput
   answers-are =
-      ap (λ (r : Sweep). atFront (r .positions) answers) swept-as
+      swept-as .1
       ∙ ap (λ (l : List ℕ). positions ++ l) (drop-of-length-le answers {i = length positions} (omega (arith, length-map ts (λ t. smaller t (plainList s)))))
       ∙ append-nil positions
 
@@ -211,46 +207,40 @@ module _ (s ts answers : List ℕ) (a : Accepted s) (o : T (ordered ts)) (e : le
 
   sweeps : SweepsAs s ts (different (plainList s) ts) (sweepOutput s ts answers)
   sweeps = record {
-    searches = λ i h. searches s a (getD ts i 0) ∙ ap (λ (p : ℕ). found p (length (path (plainList s) (getD ts i 0)))) (sym (position-at i h));
+    searches = λ i h. searches s a (getD ts i 0) ∙ ap (λ (p : ℕ). gives (found p (length (path (plainList s) (getD ts i 0))))) (sym (position-at i h));
     positions = position-at;
     count = ap length answers-are ∙ length-map ts (λ t. smaller t (plainList s));
     different-nodes = refl;
-    at-most-pins = sweep-finds .pins (plainList s) ts;
-    at-most-heights = sweep-finds .heights (plainList s) ts;
+    at-most-pins = different-few .pins (plainList s) ts;
+    at-most-heights = different-few .heights (plainList s) ts;
   }
 
-  carries : sweepOf s ts (length answers) .answer ≡ found 0 (different (plainList s) ts)
-  carries = ap (λ (r : Sweep). r .answer) swept-as
-
-  code-sweeps : (r : Swept) (after : List ℕ) → swept r ≡ sweepOf s ts (length answers) .answer → after ≡ sweepOutput s ts answers → CodeSweepsAs s ts r after
+  code-sweeps : (r : Swept) (after : List ℕ) → swept r ≡ sweepOf s ts (length answers) → after ≡ sweepOutput s ts answers → CodeSweepsAs s ts r after
   code-sweeps (sweeping.Nodes k) after h q =
-      subst (SweepsAs s ts k) (sym q) (subst (λ (m : ℕ). SweepsAs s ts m (sweepOutput s ts answers)) (sym (found-same (h ∙ carries))) sweeps)
-  code-sweeps (sweeping.Refused r) after h q = absurd (found-stopped (sym (h ∙ carries)))
+      subst (SweepsAs s ts k) (sym q) (subst (λ (m : ℕ). SweepsAs s ts m (sweepOutput s ts answers)) (sym (outcome-laws .same (h ∙ swept-as .0))) sweeps)
+  code-sweeps (sweeping.Refused r) after h q = absurd (outcome-laws .never (sym (h ∙ swept-as .0)))
 
 pub demand-3 : Demand3
 demand-3 = record {
-  sweeps = λ s ts answers a o e. (different (plainList s) ts, carries s ts answers a o e, sweeps s ts answers a o e);
+  sweeps = λ s ts answers a o e. (different (plainList s) ts, swept-as s ts answers a o e .0, sweeps s ts answers a o e);
   code-sweeps = code-sweeps;
 }
 
 -- ---- the pin walker
 
 step-of : (s : List ℕ) → Accepted s → (i : ℕ)
-    → stepOf s i ≡ cond (ltb i (length (plainList s))) (some (found (getD (plainList s) i 0) (length (toward (length (plainList s)) i)))) none
-step-of s (xs, w, (out, to)) i =
-    let one = one-list s xs out w to in
-    ap (λ (l : List ℕ). stepOf l i) (image-is xs s out to) ∙ round-trip xs (one .0) .step i
-    ∙ ap (λ (l : List ℕ). cond (ltb i (length l)) (some (found (getD l i 0) (length (toward (length l) i)))) none) (one .1)
+    → stepOf s i ≡ gives (cond (leb (length (plainList s)) i) none (some (found (getD (plainList s) i 0) (length (toward (length (plainList s)) i)))))
+step-of s (xs, w, (out, to)) i = let one = one-list s xs out w to in rw (← (one .1), image-is xs s out to) (round-trip xs (one .0) .step i)
 
 module _ (w : Walker) (start : w .next ≡ 0) (a : Accepted (now (w .strip))) where
   abbrev times : List ℕ
   times = plainList (now (w .strip))
 
-  step-time : (k : ℕ) → k < length times → stepOf (now (w .strip)) k ≡ some (found (getD times k 0) (length (toward (length times) k)))
-  step-time k l = step-of (now (w .strip)) a k ∙ rw (lt-ltb k (length times) l)
+  step-time : (k : ℕ) → k < length times → stepOf (now (w .strip)) k ≡ gives (some (found (getD times k 0) (length (toward (length times) k))))
+  step-time k l = step-of (now (w .strip)) a k ∙ rw (lt-leb (length times) k l)
 
-  step-end : (k : ℕ) → length times ≤ k → stepOf (now (w .strip)) k ≡ none
-  step-end k l = step-of (now (w .strip)) a k ∙ rw (le-ltb k (length times) l)
+  step-end : (k : ℕ) → length times ≤ k → stepOf (now (w .strip)) k ≡ gives none
+  step-end k l = step-of (now (w .strip)) a k ∙ rw (le-leb (length times) k l)
 
   abbrev at : ℕ → Walker
   at k = record { strip = w .strip; next = k }
@@ -259,7 +249,7 @@ module _ (w : Walker) (start : w .next ≡ 0) (a : Accepted (now (w .strip))) wh
   within : (k : ℕ) → k ≤ length times → walkerAfterSteps k w ≡ at k
   unfolding walkerAfterSteps nextOf
   within zero l = λ i. at (start i)
-  within (suc k) l = ap walkerAfter (within k (omega arith)) ∙ ap (λ (z : Option Answer). at (movedBy z k)) (step-time k l)
+  within (suc k) l = ap walkerAfter (within k (omega arith)) ∙ ap (λ (z : Outcome (Option Found)). at (movedBy z k)) (step-time k l)
 
   -- and after more it stands at the end
   beyond : (k : ℕ) → length times ≤ k → walkerAfterSteps k w ≡ at (length times)
@@ -267,7 +257,7 @@ module _ (w : Walker) (start : w .next ≡ 0) (a : Accepted (now (w .strip))) wh
   beyond zero l = within zero (omega arith) ∙ ap at (omega arith)
   beyond (suc k) l = elim (decLt k (length times)) [
     | yes h ↦ within (suc k) h ∙ ap at (omega arith)
-    | no h ↦ ap walkerAfter (beyond k (omega arith)) ∙ ap (λ (z : Option Answer). at (movedBy z (length times))) (step-end (length times) (le-refl (length times)))
+    | no h ↦ ap walkerAfter (beyond k (omega arith)) ∙ ap (λ (z : Outcome (Option Found)). at (movedBy z (length times))) (step-end (length times) (le-refl (length times)))
   ]
 
 pub walker-lists : WalkerLists

@@ -15,7 +15,7 @@ use Rattle.tree.specs.Shape.{height}
 use Rattle.tree.specs.Stored.{storedValues}
 use Rattle.tree.specs.Levels.{codeOf, partOf, levelValues, Stores}
 use Rattle.tree.proofs.Promises.{stored-levels}
-use Rattle.strip.specs.Outcomes.{Outcome, Test, gives, verdict, after}
+use Rattle.tree.specs.Outcomes.{Outcome, Test, gives, verdict, after}
 use Rattle.strip.specs.Layout.{header, pinsOf, codeAt, lengthAt, partsStart, endAfter}
 use Rattle.strip.specs.Image.{Packable, valuesAt, codeFor, partFor, lengthFor, planned, entryFor, joined, stripOf, image}
 use Rattle.strip.specs.Opening.{headerTests, isRefused, codeTests, lengthByEntries, lengthTest, levelTests, levelsIn, opening}

@@ -19,10 +19,10 @@ use Rattle.tree.specs.Shape.{height}
 use Rattle.tree.specs.Lists.{ordered}
 use Rattle.tree.specs.Stored.{storedValues}
 use Rattle.tree.specs.Levels.{codeOf, partOf, levelValues}
-use Rattle.tree.specs.Listing.{Stop, nowhere, accesses, endOf, timesAll, stopAll}
+use Rattle.tree.specs.Listing.{timesAll, stopAll}
 use Rattle.tree.specs.Chosen.{allChosen}
-use Rattle.tree.proofs.Promises.{stored-levels, listing-finds, chosen-stored, stored-chosen}
-use Rattle.strip.specs.Outcomes.{gives, Test, verdict}
+use Rattle.tree.proofs.Promises.{stored-levels, listing-finds, chosen-stored, stored-chosen, outcome-laws}
+use Rattle.tree.specs.Outcomes.{gives, Test, verdict}
 use Rattle.strip.specs.Layout.{maxPins, version, twoAt, fourAt, header, pinsOf, entry, codeAt, lengthAt, partsStart, endAfter, laidOut}
 use Rattle.strip.specs.Image.{Packable, valuesAt, codeFor, partFor, lengthFor, planned, entryFor, joined, stripOf, image}
 use Rattle.strip.specs.Calls.{listIn}
@@ -30,7 +30,7 @@ use Rattle.strip.specs.Opening.{hasMark, headerTests, codeTests, lengthB
 use Rattle.strip.proofs.Layouts.{laid-at, laid-pins, end-next, end-start, end-mono}
 use Rattle.strip.proofs.Plans.{level-code}
 use Rattle.strip.proofs.Images.{list-opens, image-code, image-stores}
-use Rattle.strip.proofs.Verdicts.{verdict-passed, verdict-gives}
+use Rattle.strip.proofs.Verdicts.{verdict-passed}
 
 -- ---- what opening has found out
 
@@ -56,7 +56,7 @@ open-told s levels e =
     let t₅ = verdict-passed _ _ _ _ _ levels (t₄ .1) in
     let t₆ = verdict-passed _ _ _ _ _ levels (codes-passed s (lengthTest s ∷ []) (levelsIn s) levels (height (pinsOf s)) 0 (t₅ .1)) in
     record {
-      levels-are = verdict-gives (headerTests s ++ levelTests s) (levelsIn s) levels e;
+      levels-are = outcome-laws .given (headerTests s ++ levelTests s) (levelsIn s) levels e;
       long = ltb-false (length s) (partsStart (pinsOf s)) (t₅ .0);
       marked = not-false (hasMark s) (t₂ .0);
       versioned = eqb-true (twoAt s 3) version (not-false (eqb (twoAt s 3) version) (t₃ .0));
@@ -167,7 +167,7 @@ module _ (s : List ℕ) (levels : Levels) (o : Open s levels) (bytes : Within 8 
         ∙ rw (← (drop-drop (5 * height n) 7 s), take-append-drop (5 * height n) (drop 7 s), take-append-drop 7 s))
 
 -- where the levels are what pack writes for the values that they are decoded to
-pub open-image : (s : List ℕ) (levels : Levels) → opening s ≡ gives levels → Within 8 s → nowhere ≡ stopAll levels s → allChosen levels s ≡ true
+pub open-image : (s : List ℕ) (levels : Levels) → opening s ≡ gives levels → Within 8 s → stopAll levels s ≡ gives tt → allChosen levels s ≡ true
     → image (listIn s levels) ≡ s
 unfolding listIn partFor codeFor
 open-image s levels e bytes all chosen =
@@ -180,7 +180,7 @@ open-image s levels e bytes all chosen =
     list = timesAll levels s
 
     count : length list ≡ levels .pins
-    count = listing-finds .count (accesses levels s) (levels .pins) ∙ ap (λ (z : Stop). endOf z (levels .pins)) (sym all)
+    count = listing-finds .count levels s all
 
     level : (d : ℕ) → d < height (levels .pins) → let vs = valuesAt (storedValues list) d in
         (chosenFor vs .code ≡ codeOf levels (suc d)) × (part (codeOf levels (suc d)) vs ≡ partOf levels s (suc d))
@@ -194,18 +194,15 @@ open-image s levels e bytes all chosen =
 -- the other way round: where the bytes are a list's image, the levels are what pack writes
 pub image-chosen : (s : List ℕ) (levels : Levels) (xs : List ℕ) → Packable xs → opening s ≡ gives levels → image xs ≡ s → allChosen levels s ≡ true
 image-chosen s levels xs p e is =
-    let plan : planned (storedValues xs) ≡ levels = gives-same (sym (list-opens xs p) ∙ rw is e) in
+    let plan : planned (storedValues xs) ≡ levels = outcome-laws .same (sym (list-opens xs p) ∙ rw is e) in
     rw (← plan, ← is) (stored-chosen (planned (storedValues xs)) (image xs) xs (image-stores xs p) codes)
   where
-    gives-same : {a b : Levels} → gives a ≡ gives b → a ≡ b
-    gives-same q = cc
-
     codes : (l : ℕ) → 1 ≤ l → l ≤ height (length xs) → codeOf (planned (storedValues xs)) l ≡ chosenFor (levelValues (storedValues xs) l) .code
     codes (suc d) a b = image-code xs p d b ∙ level-code (storedValues xs) d
 
 -- ---- the list that is read from an open strip
 
-module _ (s : List ℕ) (levels : Levels) (e : opening s ≡ gives levels) (all : nowhere ≡ stopAll levels s) (in-order : ordered (listIn s levels) ≡ true)
+module _ (s : List ℕ) (levels : Levels) (e : opening s ≡ gives levels) (all : stopAll levels s ≡ gives tt) (in-order : ordered (listIn s levels) ≡ true)
     (is : image (listIn s levels) ≡ s) where
   abbrev xs : List ℕ
   xs = listIn s levels
@@ -214,8 +211,8 @@ module _ (s : List ℕ) (levels : Levels) (e : opening s ≡ gives levels) (all 
   count : length xs ≡ pinsOf s
   unfolding opening listIn laidOut
   count =
-      listing-finds .count (accesses levels s) (levels .pins) ∙ ap (λ (z : Stop). endOf z (levels .pins)) (sym all)
-      ∙ ap (λ (l : Levels). l .pins) (sym (verdict-gives _ (levelsIn s) levels e))
+      listing-finds .count levels s all
+      ∙ ap (λ (l : Levels). l .pins) (sym (outcome-laws .given _ (levelsIn s) levels e))
 
   has-pins : (pinsOf s ≡ 0 → ⊥)
   unfolding opening

@@ -10,11 +10,12 @@ use borrow.Author.Tests.{lt-ltb, le-ltb, eq-eqb, ne-eqb}
 use Rattle.codes.specs.Codes.{kindOf}
 use Rattle.strip.specs.declared.opening.Opening.{Opening}
 use Rattle.strip.specs.declared.opening.Status.{Status}
-use Rattle.strip.specs.Outcomes.{gives, refuses, Test, verdict, after}
+use Rattle.tree.specs.Outcomes.{gives, refuses, after, Test, test, verdict}
+use Rattle.tree.proofs.Promises.{outcome-laws}
 use Rattle.strip.specs.Layout.{version, twoAt, pinsOf, codeAt, partsStart}
 use Rattle.strip.specs.Opening.{hasMark, headerTests, isRefused, codeTests, lengthByEntries, lengthTest, levelTests, levelsIn, opening}
 use Rattle.strip.specs.Opened.{statusOf, opened}
-use Rattle.strip.proofs.Verdicts.{verdict-holds, verdict-passes, verdict-append}
+use Rattle.strip.proofs.Verdicts.{verdict-holds, verdict-passes}
 
 -- ---- the header, test by test
 
@@ -51,7 +52,7 @@ module _ (s : List ℕ) where
           entries-cut e = past-pins ∙ verdict-holds 5 0 [] (pinsOf s) (ltb (length s) (partsStart (pinsOf s))) (lt-ltb (length s) (partsStart (pinsOf s)) e)
 
           pub header-passes : partsStart (pinsOf s) ≤ length s → verdict (headerTests s) (pinsOf s) ≡ gives (pinsOf s)
-          unfolding verdict
+          unfolding verdict test
           header-passes e = past-pins ∙ verdict-passes 5 0 [] (pinsOf s) (ltb (length s) (partsStart (pinsOf s))) (le-ltb (length s) (partsStart (pinsOf s)) e)
 
 -- ---- the levels, test by test
@@ -85,13 +86,13 @@ module _ {A : Type 0} (s : List ℕ) (a : A) where
   length-differs n = verdict-holds 13 0 [] a (not (eqb (lengthByEntries s) (length s))) (rw (ne-eqb (lengthByEntries s) (length s) n))
 
   pub length-agrees : lengthByEntries s ≡ length s → verdict (lengthTest s ∷ []) a ≡ gives a
-  unfolding verdict
+  unfolding verdict test
   length-agrees e = rw (eq-eqb (lengthByEntries s) (length s) e)
 
 -- the header's tests, then the levels'
 pub opening-steps : (s : List ℕ) → opening s ≡ after (verdict (headerTests s) (pinsOf s)) (λ _. verdict (levelTests s) (levelsIn s))
 unfolding opening
-opening-steps s = verdict-append (headerTests s) (levelTests s) (levelsIn s) (pinsOf s)
+opening-steps s = outcome-laws .append (headerTests s) (levelTests s) (levelsIn s) (pinsOf s)
 
 -- as the code's status says
 pub opening-is : (s : List ℕ) (o : Opening) (x : Status) → opened o ≡ opening s → o .status ≡ x → opening s ≡ statusOf x (o .levels)

@@ -6,9 +6,9 @@ use mathlib.Core.Option as Option
 use Prim.Native.Nat.{ℕ, suc, _-_, _^_, _≤_, _<_}
 use native.Mathlib.Decide.{decLt}
 use native.Mathlib.Omega.{arith}
-use lib.Dec.{ltb}
+use lib.Dec.{leb}
 use lib.ListN.{length}
-use borrow.Author.Tests.{lt-ltb, le-ltb, eq-eqb, ne-eqb}
+use borrow.Author.Tests.{lt-leb, le-leb, eq-eqb, ne-eqb}
 use Rattle.codes.specs.Codes.{kindOf, Holds}
 use Rattle.codes.specs.Choice.{size}
 use Rattle.codes.proofs.Promises.{best-choice}
@@ -17,10 +17,11 @@ use Rattle.tree.specs.Shape.{height}
 use Rattle.tree.specs.Stored.{storedValues}
 use Rattle.tree.specs.Levels.{codeOf, levelValues}
 use Rattle.tree.specs.Listing.{accesses}
-use Rattle.tree.specs.Promises.{Held}
-use Rattle.tree.specs.Walks.{Answer, found, stopped}
-use Rattle.tree.proofs.Promises.{stored-levels, contents, search-finds, access-opens, listing-finds}
-use Rattle.strip.specs.Outcomes.{Outcome, gives, refuses, follow, after, answerAfter}
+use Rattle.tree.specs.Promises.{Held, Contents}
+use Rattle.tree.specs.declared.walking.Found.{Found}
+use Rattle.tree.specs.Outcomes.{Outcome, gives, refuses, after}
+use Rattle.tree.specs.Times.{timesIn}
+use Rattle.tree.proofs.Promises.{stored-levels, held-reads, access-opens, outcome-laws}
 use Rattle.strip.specs.Image.{Packable, valuesAt, codeFor, planned, image}
 use Rattle.strip.specs.Opening.{opening}
 use Rattle.strip.specs.Calls.{accessIn, accessOf, searchOf, upToOf, repeatFrom, repeatOf, stepIn, stepOf}
@@ -38,11 +39,14 @@ module _ (xs : List ℕ) (p : Packable xs) where
   held : Held (planned (storedValues xs)) (image xs) xs
   held = record { in-order = p .in-order; times = p .times; stores = image-stores xs p }
 
+  reads : Contents (planned (storedValues xs) .pins) (timesIn (planned (storedValues xs)) (image xs)) xs
+  reads = held-reads (planned (storedValues xs)) (image xs) xs held
+
   image-opened : Opens xs (planned (storedValues xs))
   unfolding codeFor
   image-opened = record {
     bits = record { opened = opened; stores = held .stores; fewest = fewest; on-tie = on-tie };
-    nodes = search-finds .nodes (planned (storedValues xs)) (image xs) xs held;
+    nodes = reads .path-nodes;
   }
     where
       fewest : (l code : ℕ) → 1 ≤ l → l ≤ height (length xs) → Holds (kindOf code) (levelValues (storedValues xs) l)
@@ -64,17 +68,17 @@ module _ (xs : List ℕ) (p : Packable xs) where
   back : ReadsBack xs
   unfolding accessOf searchOf upToOf repeatOf stepOf
   back = record {
-    access = λ i l. rw (opened, lt-ltb i (planned (storedValues xs) .pins) (rw pins l)) (contents .access (planned (storedValues xs)) (image xs) xs held i l);
-    search = λ t. rw opened (search-finds .answer (planned (storedValues xs)) (image xs) xs held t);
+    access = λ i l. rw (opened, lt-leb (planned (storedValues xs) .pins) i (rw pins l)) (reads .access i l);
+    search = λ t. rw opened (reads .search t);
     repeat = λ r. rw opened (repeat-lists (accesses (planned (storedValues xs)) (image xs)) r (planned (storedValues xs) .pins)
-        ∙ rw (listing-finds .times (planned (storedValues xs)) (image xs) xs held, listing-finds .stop (planned (storedValues xs)) (image xs) xs held) (gap-ordered r xs (p .in-order)));
+        ∙ rw (reads .times, reads .stop) (gap-ordered r xs (p .in-order)));
     up-to = λ t h. rw opened (elim (decLt t (2 ^ 32 - 1)) [
-      | yes l ↦ rw (ne-eqb t (2 ^ 32 - 1) (λ e. omega arith), ← (smaller-next t xs)) (search-finds .answer (planned (storedValues xs)) (image xs) xs held (suc t))
+      | yes l ↦ rw (ne-eqb t (2 ^ 32 - 1) (λ e. omega arith), ← (smaller-next t xs)) (reads .search (suc t))
       | no n ↦ rw (eq-eqb t (2 ^ 32 - 1) (omega arith), pins, upTo-all t xs (λ i. omega (arith, p .times i)))
     ]);
     step = λ i. elim (decLt i (length xs)) [
-      | yes l ↦ rw (opened, lt-ltb i (planned (storedValues xs) .pins) (rw pins l), lt-ltb i (length xs) l) (ap Option.some (contents .access (planned (storedValues xs)) (image xs) xs held i l))
-      | no l ↦ rw (opened, le-ltb i (planned (storedValues xs) .pins) (rw pins (omega arith)), le-ltb i (length xs) (omega arith))
+      | yes l ↦ rw (opened, lt-leb (planned (storedValues xs) .pins) i (rw pins l), lt-leb (length xs) i l, reads .access i l)
+      | no l ↦ rw (opened, le-leb (planned (storedValues xs) .pins) i (rw pins (omega arith)), le-leb (length xs) i (omega arith))
     ];
   }
 
@@ -97,41 +101,30 @@ repeat-later s r i e = rw (ap positionOr1 e) at (go (opening s))
     go (gives levels) = repeat-positive (accesses levels s) r (levels .pins)
     go (refuses q c) = omega arith
 
--- the nodes that are counted, which refusals and end have none of
-abbrev nodesOr1 : Answer → ℕ
-nodesOr1 (found t k) = k
-nodesOr1 (stopped r c) = 1
-
-abbrev stepNodesOr1 : Option.Option Answer → ℕ
-stepNodesOr1 Option.none = 1
-stepNodesOr1 (Option.some a) = nodesOr1 a
-
-module _ (s : List ℕ) (i : ℕ) where
-  opens-some : (levels : Levels) → 1 ≤ nodesOr1 (accessIn s i levels)
-  opens-some levels = elim (decLt i (levels .pins)) [
-    | yes l ↦ rw (lt-ltb i (levels .pins) l) (go (accesses levels s i) refl l)
-    | no l ↦ rw (le-ltb i (levels .pins) (omega arith)) (omega arith)
-  ]
-    where
-      go : (a : Answer) → accesses levels s i ≡ a → i < levels .pins → 1 ≤ nodesOr1 a
-      go (found t k) e l = omega (arith, access-opens .count (levels .pins) _ i t k e, access-opens .some (levels .pins) i (omega arith))
-      go (stopped r c) e l = omega arith
-
-  access-opens-some : (o : Outcome Levels) → 1 ≤ nodesOr1 (answerAfter o (accessIn s i))
-  access-opens-some (gives levels) = opens-some levels
-  access-opens-some (refuses r c) = omega arith
-
-  step-opens-some : (o : Outcome Levels) → 1 ≤ stepNodesOr1 (follow (λ r c. Option.some (stopped r c)) o (stepIn s i))
-  step-opens-some (gives levels) = go (ltb i (levels .pins)) (accessIn s i levels) (opens-some levels)
-    where
-      go : (b : Bool) (a : Answer) → 1 ≤ nodesOr1 a → 1 ≤ stepNodesOr1 (cond b (Option.some a) Option.none)
-      go true a h = h
-      go false a h = omega arith
-  step-opens-some (refuses r c) = omega arith
+-- what an access gives has a node or more
+opens-some : (s : List ℕ) (i : ℕ) (levels : Levels) (f : Found) → accessIn s i levels ≡ gives f → 1 ≤ f .nodes
+opens-some s i levels f e = elim (decLt i (levels .pins)) [
+  | yes l ↦
+      omega (arith, access-opens .count (levels .pins) _ i f (rw (lt-leb (levels .pins) i l) at e), access-opens .some (levels .pins) i (omega arith))
+  | no l ↦ absurd (outcome-laws .never (sym (rw (le-leb (levels .pins) i (omega arith)) at e)))
+]
 
 pub time-opens : TimeOpens
 unfolding accessOf stepOf
-time-opens = record {
-  access = λ s i t k e. rw (ap nodesOr1 e) at (access-opens-some s i (opening s));
-  step = λ s i t k e. rw (ap stepNodesOr1 e) at (step-opens-some s i (opening s));
-}
+time-opens = record { access = λ s i f. access s i f (opening s); step = λ s i f. step s i f (opening s) }
+  where
+    access : (s : List ℕ) (i : ℕ) (f : Found) (o : Outcome Levels) → after o (accessIn s i) ≡ gives f → 1 ≤ f .nodes
+    access s i f (gives levels) e = opens-some s i levels f e
+    access s i f (refuses r c) e = absurd (outcome-laws .never (sym e))
+
+    step : (s : List ℕ) (i : ℕ) (f : Found) (o : Outcome Levels) → after o (stepIn s i) ≡ gives (Option.some f) → 1 ≤ f .nodes
+    step s i f (refuses r c) e = absurd (outcome-laws .never (sym e))
+    step s i f (gives levels) e = go (leb (levels .pins) i) (accessIn s i levels) refl e
+      where
+        go : (b : Bool) (a : Outcome Found) → accessIn s i levels ≡ a → cond b (gives Option.none) (after a (λ g. gives (Option.some g))) ≡ gives (Option.some f) → 1 ≤ f .nodes
+        go true a p q = absurd (let z : _≡_ {A = ℕ} 0 1 = cc in omega arith)
+        go false (gives g) p q = opens-some s i levels f (p ∙ ap gives (same q))
+          where
+            same : gives (Option.some g) ≡ gives (Option.some f) → g ≡ f
+            same h = cc
+        go false (refuses r c) p q = absurd (outcome-laws .never (sym q))

@@ -13,19 +13,23 @@ use lib.ListN.{length, getD}
 use borrow.Author.Tests.{lt-ltb, le-ltb}
 use Rattle.tree.specs.declared.nodes.Levels.{Levels}
 use Rattle.tree.specs.Lists.{ordered}
-use Rattle.tree.specs.Walks.{Answer, found, stopped}
-use Rattle.tree.specs.Listing.{Stop, nowhere, at, accesses, timesFrom, stopFrom, timesAll, stopAll}
+use Rattle.tree.specs.declared.walking.Found.{Found}
+use Rattle.tree.specs.Outcomes.{Outcome, gives, refuses, after, Test, test, verdict}
+use Rattle.tree.specs.Listing.{accesses, timesFrom, stopFrom, timesAll, stopAll}
 use Rattle.tree.proofs.Orders.{ordered-head}
 use Rattle.strip.specs.Lists.{firstLower, gapFrom, firstGap}
-use Rattle.strip.specs.Outcomes.{Outcome, gives, refuses, Test, test, verdict, after}
-use Rattle.strip.specs.Calls.{timeOr0, refusalTest, fallsAt, positionsTests, listIn, imageTest, checkIn, nearAt, repeatFrom}
+use Rattle.strip.specs.Calls.{timeAt, positionTest, positionsTests, listIn, imageTest, checkIn, nearAt, repeatFrom}
 use Rattle.strip.specs.Read.{firstNear, gapOr}
 use Rattle.strip.proofs.Gaps.{near-here, near-later, near-one, near-some, near-positive, near-at, lower-near, not-ordered, is-ordered}
 
--- what ends a reading after its last position
-abbrev pub ending : Stop → Outcome (Option ℕ)
-ending nowhere = gives none
-ending (at i r c) = refuses r c
+-- what follows an outcome that follows another
+pub after-after : {A B C : Type 0} (o : Outcome A) (f : A → Outcome B) (g : B → Outcome C) → after (after o f) g ≡ after o (λ a. after (f a) g)
+after-after (gives a) f g = refl
+after-after (refuses r c) f g = refl
+
+-- what repeat answers after its last position, where no gap is too short
+abbrev pub ending : Test → Outcome (Option ℕ)
+ending stop = after stop (λ _. gives none)
 
 -- ---- repeat
 
@@ -57,39 +61,40 @@ module _ (r i x y : ℕ) (ys : List ℕ) (end : Outcome (Option ℕ)) where
             | no l ↦ rw (le-ltb (suc q) (suc (length ys)) (omega arith), le-ltb (suc (suc q)) (suc (suc (length ys))) (omega arith))
           ]
 
-module _ (answer : ℕ → Answer) (r : ℕ) where
-  -- from the position after i on, where position i has time x
-  gaps-from : (k i x j : ℕ) → answer i ≡ found x j → repeatFrom answer r k (suc i) ≡ gapsFrom r i (x ∷ timesFrom answer k (suc i)) (ending (stopFrom answer k (suc i)))
-  unfolding repeatFrom timesFrom stopFrom verdict
-  gaps-from zero i x j e = rw (near-one r x)
-  gaps-from (suc k) i x j e = go (answer (suc i)) refl (gaps-from k (suc i))
+module _ (answer : ℕ → Outcome Found) (r : ℕ) where
+  -- from the position after i on, where position i has a time
+  gaps-from : (k i : ℕ) (f : Found) → answer i ≡ gives f
+      → repeatFrom answer r k (suc i) ≡ gapsFrom r i (f .value ∷ timesFrom answer k (suc i)) (ending (stopFrom answer k (suc i)))
+  unfolding repeatFrom timesFrom stopFrom
+  gaps-from zero i f e = rw (near-one r (f .value))
+  gaps-from (suc k) i f e = go (answer (suc i)) refl (gaps-from k (suc i))
     where
-      go : (z : Answer) → answer (suc i) ≡ z
-          → ((y l : ℕ) → answer (suc i) ≡ found y l
-          → repeatFrom answer r k (suc (suc i)) ≡ gapsFrom r (suc i) (y ∷ timesFrom answer k (suc (suc i))) (ending (stopFrom answer k (suc (suc i)))))
-          → repeatFrom answer r (suc k) (suc i) ≡ gapsFrom r i (x ∷ timesFrom answer (suc k) (suc i)) (ending (stopFrom answer (suc k) (suc i)))
-      go (stopped q c) f later = rw (f, near-one r x)
-      go (found y l) f later = elim (decLt y (x + r)) [
-        | yes n ↦ rw (f, e) (here (decLt y x) n ∙ sym (gaps-here r i x y (timesFrom answer k (suc (suc i))) (ending (stopFrom answer k (suc (suc i)))) n))
+      go : (z : Outcome Found) → answer (suc i) ≡ z
+          → ((g : Found) → answer (suc i) ≡ gives g
+          → repeatFrom answer r k (suc (suc i)) ≡ gapsFrom r (suc i) (g .value ∷ timesFrom answer k (suc (suc i))) (ending (stopFrom answer k (suc (suc i)))))
+          → repeatFrom answer r (suc k) (suc i) ≡ gapsFrom r i (f .value ∷ timesFrom answer (suc k) (suc i)) (ending (stopFrom answer (suc k) (suc i)))
+      go (refuses q c) d later = rw (d, near-one r (f .value))
+      go (gives g) d later = elim (decLt (g .value) (f .value + r)) [
+        | yes n ↦ rw (d, e) (here (decLt (g .value) (f .value)) n ∙ sym (gaps-here r i (f .value) (g .value) (timesFrom answer k (suc (suc i))) (ending (stopFrom answer k (suc (suc i)))) n))
         | no n ↦
-            rw (f, e, le-ltb y x (omega arith), le-ltb (y - x) r (omega arith))
-            (later y l f ∙ sym (gaps-later r i x y (timesFrom answer k (suc (suc i))) (ending (stopFrom answer k (suc (suc i)))) (omega arith)))
+            rw (d, e, le-ltb (g .value) (f .value) (omega arith), le-ltb (g .value - f .value) r (omega arith))
+            (later g d ∙ sym (gaps-later r i (f .value) (g .value) (timesFrom answer k (suc (suc i))) (ending (stopFrom answer k (suc (suc i)))) (omega arith)))
       ]
         where
-          here : Dec (y < x) → y < x + r
-              → after (cond (ltb y x) (refuses 11 (suc i)) (gives (ltb (y - x) r))) (λ b. cond b (gives (some (suc i))) (repeatFrom answer r k (suc (suc i))))
-              ≡ cond (ltb y x) (refuses 11 (suc i)) (gives (some (suc i)))
-          here (yes h) n = rw (lt-ltb y x h)
-          here (no h) n = rw (le-ltb y x (omega arith), lt-ltb (y - x) r (omega arith))
+          here : Dec (g .value < f .value) → g .value < f .value + r
+              → after (test (ltb (g .value) (f .value)) 11 (suc i)) (λ _. cond (ltb (g .value - f .value) r) (gives (some (suc i))) (repeatFrom answer r k (suc (suc i))))
+              ≡ cond (ltb (g .value) (f .value)) (refuses 11 (suc i)) (gives (some (suc i)))
+          here (yes h) n = rw (lt-ltb (g .value) (f .value) h)
+          here (no h) n = rw (le-ltb (g .value) (f .value) (omega arith), lt-ltb (g .value - f .value) r (omega arith))
 
   pub repeat-lists : (k : ℕ) → repeatFrom answer r k 0 ≡ gapOr r (timesFrom answer k 0) (ending (stopFrom answer k 0))
-  unfolding repeatFrom timesFrom stopFrom verdict firstNear
+  unfolding repeatFrom timesFrom stopFrom firstNear
   repeat-lists zero = refl
   repeat-lists (suc k) = go (answer 0) refl
     where
-      go : (z : Answer) → answer 0 ≡ z → repeatFrom answer r (suc k) 0 ≡ gapOr r (timesFrom answer (suc k) 0) (ending (stopFrom answer (suc k) 0))
-      go (stopped q c) f = rw f
-      go (found x l) f = rw f (gaps-from k 0 x l f ∙ rw (zero-add (firstNear r (x ∷ timesFrom answer k 1))))
+      go : (z : Outcome Found) → answer 0 ≡ z → repeatFrom answer r (suc k) 0 ≡ gapOr r (timesFrom answer (suc k) 0) (ending (stopFrom answer (suc k) 0))
+      go (refuses q c) d = rw d
+      go (gives f) d = rw d (gaps-from k 0 f d ∙ rw (zero-add (firstNear r (f .value ∷ timesFrom answer k 1))))
 
 -- the position that is given, which position 0 never is
 abbrev pub positionOr1 : Outcome (Option ℕ) → ℕ
@@ -97,18 +102,18 @@ positionOr1 (gives none) = 1
 positionOr1 (gives (some i)) = i
 positionOr1 (refuses r c) = 1
 
-pub repeat-positive : (answer : ℕ → Answer) (r k : ℕ) → 1 ≤ positionOr1 (repeatFrom answer r k 0)
+pub repeat-positive : (answer : ℕ → Outcome Found) (r k : ℕ) → 1 ≤ positionOr1 (repeatFrom answer r k 0)
 repeat-positive answer r k = rw (repeat-lists answer r k) (at-end (stopFrom answer k 0) (timesFrom answer k 0))
   where
     here : (lower : Bool) (q : ℕ) → 1 ≤ q → 1 ≤ positionOr1 (cond lower (refuses 11 q) (gives (some q)))
     here true q h = omega arith
     here false q h = h
 
-    none-left : (z : Stop) → 1 ≤ positionOr1 (ending z)
-    none-left nowhere = omega arith
-    none-left (at i q c) = omega arith
+    none-left : (z : Test) → 1 ≤ positionOr1 (ending z)
+    none-left (gives u) = omega arith
+    none-left (refuses q c) = omega arith
 
-    at-end : (z : Stop) (xs : List ℕ) → 1 ≤ positionOr1 (gapOr r xs (ending z))
+    at-end : (z : Test) (xs : List ℕ) → 1 ≤ positionOr1 (gapOr r xs (ending z))
     at-end z xs = elim (decLt (firstNear r xs) (length xs)) [
       | yes l ↦
           rw (lt-ltb (firstNear r xs) (length xs) l)
@@ -133,23 +138,21 @@ gap-ordered r xs o = rw (zero-add (firstNear r xs)) at (gaps-ordered r 0 xs o)
 
 -- ---- check
 
-module _ (answer : ℕ → Answer) {A : Type 0} (rest : List Test) (a : A) where
+module _ (answer : ℕ → Outcome Found) {A : Type 0} (rest : List Test) (a : A) where
   no-gap : (time : ℕ → ℕ) (i : ℕ) → nearAt time 0 i ≡ false
   no-gap time zero = refl
   no-gap time (suc i) = le-ltb (time (suc i) - time i) 0 (omega arith)
 
   -- check's tests are those of repeat with r = 0, which no gap is below
   check-repeats : (k i : ℕ) → verdict (positionsTests answer k i ++ rest) a ≡ after (repeatFrom answer 0 k i) (λ _. verdict rest a)
-  unfolding positionsTests repeatFrom verdict
+  unfolding positionsTests repeatFrom verdict test
   check-repeats zero i = refl
-  check-repeats (suc k) i = rw (no-gap (λ j. timeOr0 (answer j)) i) (go (answer i) (fallsAt (λ j. timeOr0 (answer j)) i) (check-repeats k (suc i)))
+  check-repeats (suc k) i = rw (no-gap (timeAt answer) i) (go (positionTest answer i) (check-repeats k (suc i)))
     where
-      go : (z : Answer) (falls : Bool) → verdict (positionsTests answer k (suc i) ++ rest) a ≡ after (repeatFrom answer 0 k (suc i)) (λ _. verdict rest a)
-          → verdict (refusalTest z ∷ test falls 11 i ∷ positionsTests answer k (suc i) ++ rest) a
-          ≡ after (after (verdict (refusalTest z ∷ test falls 11 i ∷ []) false) (λ b. cond b (gives (some i)) (repeatFrom answer 0 k (suc i)))) (λ _. verdict rest a)
-      go (stopped r c) falls e = refl
-      go (found t j) true e = refl
-      go (found t j) false e = e
+      go : (z : Test) → verdict (positionsTests answer k (suc i) ++ rest) a ≡ after (repeatFrom answer 0 k (suc i)) (λ _. verdict rest a)
+          → after z (λ _. verdict (positionsTests answer k (suc i) ++ rest) a) ≡ after (after z (λ _. repeatFrom answer 0 k (suc i))) (λ _. verdict rest a)
+      go (gives u) e = e
+      go (refuses r c) e = refl
 
 pub falls-first : {A : Type 0} (xs : List ℕ) (end : Outcome (Option ℕ)) (f : Option ℕ → Outcome A)
     → after (gapOr 0 xs end) f ≡ cond (not (ordered xs)) (refuses 11 (firstLower xs)) (after end f)
@@ -164,22 +167,27 @@ abbrev fallsTest : List ℕ → Test
 fallsTest xs = test (not (ordered xs)) 11 (firstLower xs)
 
 module _ (s : List ℕ) (levels : Levels) where
-  pub check-lists : checkIn s levels
-      ≡ cond (not (ordered (listIn s levels))) (refuses 11 (firstLower (listIn s levels)))
-      (after (ending (stopAll levels s)) (λ _. verdict (imageTest s levels ∷ []) (levels .pins)))
+  abbrev last : Outcome ℕ
+  last = verdict (imageTest s levels ∷ []) (levels .pins)
+
+  -- 11 for the times that are listed, then the refusal that ends them, then 12
+  pub check-lists : checkIn s levels ≡ cond (not (ordered (listIn s levels))) (refuses 11 (firstLower (listIn s levels))) (after (stopAll levels s) (λ _. last))
   unfolding listIn
   check-lists =
       check-repeats (accesses levels s) (imageTest s levels ∷ []) (levels .pins) (levels .pins) 0
-      ∙ ap (λ (o : Outcome (Option ℕ)). after o (λ _. verdict (imageTest s levels ∷ []) (levels .pins))) (repeat-lists (accesses levels s) 0 (levels .pins))
-      ∙ falls-first (timesAll levels s) (ending (stopAll levels s)) (λ _. verdict (imageTest s levels ∷ []) (levels .pins))
+      ∙ ap (λ (o : Outcome (Option ℕ)). after o (λ _. last)) (repeat-lists (accesses levels s) 0 (levels .pins))
+      ∙ falls-first (timesAll levels s) (ending (stopAll levels s)) (λ _. last)
+      ∙ ap (cond (not (ordered (timesAll levels s))) (refuses 11 (firstLower (timesAll levels s)))) (after-after (stopAll levels s) (λ _. gives none) (λ _. last))
 
   -- every position has a time
-  pub check-all : stopAll levels s ≡ nowhere → checkIn s levels ≡ verdict (fallsTest (listIn s levels) ∷ imageTest s levels ∷ []) (levels .pins)
-  unfolding verdict
-  check-all e = check-lists ∙ rw e
+  pub check-all : stopAll levels s ≡ gives tt → checkIn s levels ≡ verdict (fallsTest (listIn s levels) ∷ imageTest s levels ∷ []) (levels .pins)
+  unfolding verdict test
+  check-all e = check-lists ∙ rw e (falls-then (ordered (listIn s levels)))
+    where
+      falls-then : (b : Bool) {x : Outcome ℕ} → cond (not b) (refuses 11 (firstLower (listIn s levels))) x ≡ after (test (not b) 11 (firstLower (listIn s levels))) (λ _. x)
+      falls-then true = refl
+      falls-then false = refl
 
   -- one is refused
-  pub check-stopped : (i r c : ℕ) → stopAll levels s ≡ at i r c
-      → checkIn s levels ≡ verdict (fallsTest (listIn s levels) ∷ test true r c ∷ []) 0
-  unfolding verdict
-  check-stopped i r c e = check-lists ∙ rw e
+  pub check-stopped : (r c : ℕ) → stopAll levels s ≡ refuses r c → checkIn s levels ≡ cond (not (ordered (listIn s levels))) (refuses 11 (firstLower (listIn s levels))) (refuses r c)
+  check-stopped r c e = check-lists ∙ rw e

@@ -1,28 +1,24 @@
--- A sweep is refused by 15, then 16, and is otherwise the tree's.
+-- A sweep is refused by 15, then 16.
 use mathlib.Core.Path.{_≡_}
 use mathlib.Core.Bool.{true, false}
-use mathlib.Core.List.{List, []}
+use mathlib.Core.List.{List}
 use Prim.Native.Nat.{ℕ}
 use lib.ListN.{length}
 use borrow.Author.Tests.{eq-eqb, ne-eqb}
-use Rattle.tree.specs.declared.nodes.Levels.{Levels}
 use Rattle.tree.specs.Lists.{ordered}
-use Rattle.tree.specs.Times.{timesIn}
-use Rattle.tree.specs.Walks.{stopped}
-use Rattle.tree.specs.Sweeps.{sweep}
+use Rattle.tree.specs.Outcomes.{gives, refuses, test, verdict}
 use Rattle.strip.specs.Lists.{firstLower}
-use Rattle.strip.specs.Outcomes.{verdict}
-use Rattle.strip.specs.Calls.{sweepIn}
+use Rattle.strip.specs.Calls.{sweepTests}
 
-module _ (s ts : List ℕ) (room : ℕ) (levels : Levels) where
-  pub lengths-differ : (room ≡ length ts → ⊥) → sweepIn s ts room levels ≡ record { positions = []; answer = stopped 15 0 }
-  unfolding verdict
+module _ {A : Type 0} (a : A) (ts : List ℕ) (room : ℕ) where
+  pub lengths-differ : (room ≡ length ts → ⊥) → verdict (sweepTests ts room) a ≡ refuses 15 0
+  unfolding verdict test
   lengths-differ d = rw (ne-eqb room (length ts) d)
 
-  pub targets-fall : room ≡ length ts → ordered ts ≡ false → sweepIn s ts room levels ≡ record { positions = []; answer = stopped 16 (firstLower ts) }
-  unfolding verdict
+  pub targets-fall : room ≡ length ts → ordered ts ≡ false → verdict (sweepTests ts room) a ≡ refuses 16 (firstLower ts)
+  unfolding verdict test
   targets-fall e o = rw (eq-eqb room (length ts) e, o)
 
-  pub targets-follow : room ≡ length ts → ordered ts ≡ true → sweepIn s ts room levels ≡ sweep (levels .pins) (timesIn levels s) ts
-  unfolding verdict
+  pub targets-follow : room ≡ length ts → ordered ts ≡ true → verdict (sweepTests ts room) a ≡ gives a
+  unfolding verdict test
   targets-follow e o = rw (eq-eqb room (length ts) e, o)

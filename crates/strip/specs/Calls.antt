@@ -3,22 +3,22 @@ use mathlib.Core.Bool.{Bool, true, false, not, cond}
 use mathlib.Core.List.{List, [], _∷_, _++_}
 use mathlib.Core.Option.{Option, none, some}
 use Prim.Native.Nat.{ℕ, zero, suc, _-_, _^_}
-use lib.Dec.{eqb, ltb}
+use lib.Dec.{eqb, ltb, leb}
 use lib.ListN.{length}
 use denote.Ref.{now}
 use Rattle.codes.specs.Lists.{same, atFront}
 use Rattle.tree.specs.declared.nodes.Levels.{Levels}
 use Rattle.tree.specs.Lists.{ordered}
+use Rattle.tree.specs.declared.walking.Found.{Found}
+use Rattle.tree.specs.Outcomes.{Outcome, gives, refuses, follow, after, Test, test, verdict}
 use Rattle.tree.specs.Times.{timesIn}
-use Rattle.tree.specs.Walks.{Answer, found, stopped, searchAnswer}
-use Rattle.tree.specs.Sweeps.{Sweep, sweepAll}
+use Rattle.tree.specs.Walks.{found, searchAnswer}
+use Rattle.tree.specs.Sweeps.{sweepAnswer, sweepPositions}
 use Rattle.tree.specs.Listing.{accesses, timesAll}
 use Rattle.strip.specs.declared.strip.Packed.{Packed}
 use Rattle.strip.specs.declared.strip.Packed.the-variants as packing
-use Rattle.strip.specs.declared.strip.Accessed.{Accessed}
-use Rattle.strip.specs.declared.strip.Accessed.the-variants as access
-use Rattle.strip.specs.declared.strip.Searched.{Searched}
-use Rattle.strip.specs.declared.strip.Searched.the-variants as search
+use Rattle.strip.specs.declared.strip.Walked.{Walked}
+use Rattle.strip.specs.declared.strip.Walked.the-variants as walking
 use Rattle.strip.specs.declared.strip.Swept.{Swept}
 use Rattle.strip.specs.declared.strip.Swept.the-variants as sweeping
 use Rattle.strip.specs.declared.strip.Checked.{Checked}
@@ -29,7 +29,6 @@ use Rattle.strip.specs.declared.walker.Stepped.{Stepped}
 use Rattle.strip.specs.declared.walker.Stepped.the-variants as step
 use Rattle.strip.specs.declared.walker.Walker.{Walker}
 use Rattle.strip.specs.Lists.{firstLower}
-use Rattle.strip.specs.Outcomes.{Outcome, gives, refuses, Test, test, verdict, follow, after, answerAfter}
 use Rattle.strip.specs.Refusals.{refusalNumber, carried}
 use Rattle.strip.specs.Layout.{maxPins}
 use Rattle.strip.specs.Image.{image}
@@ -60,8 +59,7 @@ packOf xs room = verdict (packTests xs room) (length (image xs))
 
 -- the output with these entries at the front; a refusal writes nothing
 abbrev pub written : Outcome ℕ → List ℕ → List ℕ → List ℕ
-written (gives n) entries out = atFront entries out
-written (refuses r c) entries out = out
+written o entries out = follow (λ r c. out) o (λ n. atFront entries out)
 
 -- the output after pack: the image at the front, later bytes as they were
 unfoldable pub packOutput : List ℕ → List ℕ → List ℕ
@@ -75,37 +73,33 @@ packed (packing.Refused r) = refuses (refusalNumber r) (carried r)
 -- ---- access, search, up-to
 
 -- 14, then fetches from the root to rank i
-abbrev pub accessIn : List ℕ → ℕ → Levels → Answer
-accessIn s i levels = cond (ltb i (levels .pins)) (accesses levels s i) (stopped 14 0)
+abbrev pub accessIn : List ℕ → ℕ → Levels → Outcome Found
+accessIn s i levels = after (test (leb (levels .pins) i) 14 0) (λ _. accesses levels s i)
 
 -- access i, which opens first
-unfoldable pub accessOf : List ℕ → ℕ → Answer
-accessOf s i = answerAfter (opening s) (accessIn s i)
-
-abbrev pub accessed : Accessed → Answer
-accessed (access.Time t k) = found t k
-accessed (access.Refused r) = stopped (refusalNumber r) (carried r)
+unfoldable pub accessOf : List ℕ → ℕ → Outcome Found
+accessOf s i = after (opening s) (accessIn s i)
 
 -- from the root, left where the node's time is at or above t, else right, until no child
-abbrev pub searchIn : List ℕ → ℕ → Levels → Answer
+abbrev pub searchIn : List ℕ → ℕ → Levels → Outcome Found
 searchIn s t levels = searchAnswer (levels .pins) (timesIn levels s) t
 
 -- search t, which opens first
-unfoldable pub searchOf : List ℕ → ℕ → Answer
-searchOf s t = answerAfter (opening s) (searchIn s t)
+unfoldable pub searchOf : List ℕ → ℕ → Outcome Found
+searchOf s t = after (opening s) (searchIn s t)
 
 -- n and 0 nodes for t = 4,294,967,295, otherwise search at t + 1 with its count
-abbrev pub upToIn : List ℕ → ℕ → Levels → Answer
-upToIn s t levels = cond (eqb t (2 ^ 32 - 1)) (found (levels .pins) 0) (searchIn s (suc t) levels)
+abbrev pub upToIn : List ℕ → ℕ → Levels → Outcome Found
+upToIn s t levels = cond (eqb t (2 ^ 32 - 1)) (gives (found (levels .pins) 0)) (searchIn s (suc t) levels)
 
 -- up-to t, which opens first
-unfoldable pub upToOf : List ℕ → ℕ → Answer
-upToOf s t = answerAfter (opening s) (upToIn s t)
+unfoldable pub upToOf : List ℕ → ℕ → Outcome Found
+upToOf s t = after (opening s) (upToIn s t)
 
--- of search and of up-to
-abbrev pub searched : Searched → Answer
-searched (search.Position p k) = found p k
-searched (search.Refused r) = stopped (refusalNumber r) (carried r)
+-- of access, search and up-to
+abbrev pub walked : Walked → Outcome Found
+walked (walking.Found f) = gives f
+walked (walking.Refused r) = refuses (refusalNumber r) (carried r)
 
 -- ---- sweep
 
@@ -113,37 +107,31 @@ searched (search.Refused r) = stopped (refusalNumber r) (carried r)
 abbrev pub sweepTests : List ℕ → ℕ → List Test
 sweepTests ts room = test (not (eqb room (length ts))) 15 0 ∷ test (not (ordered ts)) 16 (firstLower ts) ∷ []
 
--- a refusal before the first target writes nothing
-abbrev pub sweepAfter : {A : Type 0} → Outcome A → (A → Sweep) → Sweep
-sweepAfter o f = follow (λ r c. record { positions = []; answer = stopped r c }) o f
-
 -- 15, 16, then one target after the other, with so many answers lent
-abbrev pub sweepIn : List ℕ → List ℕ → ℕ → Levels → Sweep
-sweepIn s ts room levels = sweepAfter (verdict (sweepTests ts room) levels) (λ l. sweepAll l s ts)
+abbrev pub sweepIn : List ℕ → List ℕ → ℕ → Levels → Outcome ℕ
+sweepIn s ts room levels = after (verdict (sweepTests ts room) levels) (λ l. sweepAnswer (l .pins) (timesIn l s) ts)
 
 -- the sweep, which opens first
-unfoldable pub sweepOf : List ℕ → List ℕ → ℕ → Sweep
-sweepOf s ts room = sweepAfter (opening s) (sweepIn s ts room)
+unfoldable pub sweepOf : List ℕ → List ℕ → ℕ → Outcome ℕ
+sweepOf s ts room = after (opening s) (sweepIn s ts room)
 
 -- the answers after it: the positions of the targets before the one that is refused, or of all; later ones as they were
-unfoldable pub sweepOutput : List ℕ → List ℕ → List ℕ → List ℕ
-sweepOutput s ts answers = atFront (sweepOf s ts (length answers) .positions) answers
+abbrev pub sweepOver : List ℕ → List ℕ → List ℕ → Levels → List ℕ
+sweepOver s ts answers levels =
+    follow (λ r c. answers) (verdict (sweepTests ts (length answers)) levels) (λ l. atFront (sweepPositions (l .pins) (timesIn l s) ts) answers)
 
-abbrev pub swept : Swept → Answer
-swept (sweeping.Nodes k) = found 0 k
-swept (sweeping.Refused r) = stopped (refusalNumber r) (carried r)
+unfoldable pub sweepOutput : List ℕ → List ℕ → List ℕ → List ℕ
+sweepOutput s ts answers = follow (λ r c. answers) (opening s) (sweepOver s ts answers)
+
+abbrev pub swept : Swept → Outcome ℕ
+swept (sweeping.Nodes k) = gives k
+swept (sweeping.Refused r) = refuses (refusalNumber r) (carried r)
 
 -- ---- check and unpack
 
--- a time; where access is refused the call ends, and nothing is asked of it
-abbrev pub timeOr0 : Answer → ℕ
-timeOr0 (found t k) = t
-timeOr0 (stopped r c) = 0
-
--- access's refusal
-abbrev pub refusalTest : Answer → Test
-refusalTest (found t k) = test false 0 0
-refusalTest (stopped r c) = test true r c
+-- the time at position i; where access is refused the call ends, and nothing is asked of it
+abbrev pub timeAt : (ℕ → Outcome Found) → ℕ → ℕ
+timeAt answer i = follow (λ r c. 0) (answer i) (λ f. f .value)
 
 -- the times fall at a position
 abbrev pub fallsAt : (ℕ → ℕ) → ℕ → Bool
@@ -151,13 +139,13 @@ fallsAt time zero = false
 fallsAt time (suc i) = ltb (time (suc i)) (time i)
 
 -- at position i access's refusal, then 11
-abbrev pub positionTests : (ℕ → Answer) → ℕ → List Test
-positionTests answer i = refusalTest (answer i) ∷ test (fallsAt (λ j. timeOr0 (answer j)) i) 11 i ∷ []
+abbrev pub positionTest : (ℕ → Outcome Found) → ℕ → Test
+positionTest answer i = after (answer i) (λ f. test (fallsAt (timeAt answer) i) 11 i)
 
 -- at each of k positions from i on
-unfoldable pub positionsTests : (ℕ → Answer) → ℕ → ℕ → List Test
+unfoldable pub positionsTests : (ℕ → Outcome Found) → ℕ → ℕ → List Test
 positionsTests answer zero i = []
-positionsTests answer (suc k) i = positionTests answer i ++ positionsTests answer k (suc i)
+positionsTests answer (suc k) i = positionTest answer i ∷ positionsTests answer k (suc i)
 
 -- the list so read
 unfoldable pub listIn : List ℕ → Levels → List ℕ
@@ -204,12 +192,9 @@ nearAt time r zero = false
 nearAt time r (suc i) = ltb (time (suc i) - time i) r
 
 -- at each of k positions from i on: access's refusal, then 11, then the test of r, whose first position is given; or none
-unfoldable pub repeatFrom : (ℕ → Answer) → ℕ → ℕ → ℕ → Outcome (Option ℕ)
+unfoldable pub repeatFrom : (ℕ → Outcome Found) → ℕ → ℕ → ℕ → Outcome (Option ℕ)
 repeatFrom answer r zero i = gives none
-repeatFrom answer r (suc k) i =
-    let near = nearAt (λ j. timeOr0 (answer j)) r i in
-    let later = repeatFrom answer r k (suc i) in
-    after (verdict (positionTests answer i) near) (λ b. cond b (gives (some i)) later)
+repeatFrom answer r (suc k) i = after (positionTest answer i) (λ _. cond (nearAt (timeAt answer) r i) (gives (some i)) (repeatFrom answer r k (suc i)))
 
 -- repeat r, which opens first
 unfoldable pub repeatOf : List ℕ → ℕ → Outcome (Option ℕ)
@@ -223,30 +208,30 @@ repeated (repeat.Refused r) = refuses (refusalNumber r) (carried r)
 -- ---- pin walker
 
 -- end, which is `none`, at n or beyond, otherwise access there
-abbrev pub stepIn : List ℕ → ℕ → Levels → Option Answer
-stepIn s i levels = cond (ltb i (levels .pins)) (some (accessIn s i levels)) none
+abbrev pub stepIn : List ℕ → ℕ → Levels → Outcome (Option Found)
+stepIn s i levels = cond (leb (levels .pins) i) (gives none) (after (accessIn s i levels) (λ f. gives (some f)))
 
 -- a step at next position i, which opens first
-unfoldable pub stepOf : List ℕ → ℕ → Option Answer
-stepOf s i = follow (λ r c. some (stopped r c)) (opening s) (stepIn s i)
+unfoldable pub stepOf : List ℕ → ℕ → Outcome (Option Found)
+stepOf s i = after (opening s) (stepIn s i)
 
 -- moves on by one; end and refusals do not move it
-abbrev pub movedBy : Option Answer → ℕ → ℕ
-movedBy (some (found t k)) i = suc i
-movedBy (some (stopped r c)) i = i
-movedBy none i = i
+abbrev pub movedBy : Outcome (Option Found) → ℕ → ℕ
+movedBy (gives (some f)) i = suc i
+movedBy (gives none) i = i
+movedBy (refuses r c) i = i
 
 -- the next position after that step
 unfoldable pub nextOf : List ℕ → ℕ → ℕ
 nextOf s i = movedBy (stepOf s i) i
 
-abbrev pub stepped : Stepped → Option Answer
-stepped (step.Time t k) = some (found t k)
-stepped step.End = none
-stepped (step.Refused r) = some (stopped (refusalNumber r) (carried r))
+abbrev pub stepped : Stepped → Outcome (Option Found)
+stepped (step.Found f) = gives (some f)
+stepped step.End = gives none
+stepped (step.Refused r) = refuses (refusalNumber r) (carried r)
 
 -- what a step of a walker says
-abbrev pub walkerStep : Walker → Option Answer
+abbrev pub walkerStep : Walker → Outcome (Option Found)
 walkerStep w = stepOf (now (w .strip)) (w .next)
 
 -- the walker after it: the same strip, and the next position

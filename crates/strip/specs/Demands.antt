@@ -16,6 +16,7 @@ use Rattle.tree.specs.Shape.{height}
 use Rattle.tree.specs.Lists.{ordered, smaller}
 use Rattle.tree.specs.Stored.{storedValues}
 use Rattle.tree.specs.Levels.{codeOf, levelValues, Stores}
+use Rattle.tree.specs.Outcomes.{gives}
 use Rattle.tree.specs.Walks.{found, toward, path}
 use Rattle.tree.specs.Sweeps.{different}
 use Rattle.strip.specs.declared.strip.Checked.{Checked}
@@ -23,7 +24,6 @@ use Rattle.strip.specs.declared.strip.Checked.the-variants.{Pins, Refuse
 use Rattle.strip.specs.declared.strip.Swept.{Swept}
 use Rattle.strip.specs.declared.strip.Swept.the-variants as sweeping
 use Rattle.strip.specs.declared.walker.Walker.{Walker}
-use Rattle.strip.specs.Outcomes.{gives}
 use Rattle.strip.specs.Image.{Packable, image}
 use Rattle.strip.specs.Opening.{opening}
 use Rattle.strip.specs.Calls.{packOf, packOutput, searchOf, sweepOf, sweepOutput, swept, checkOf, checked, plainList, unpackOf, unpackOutput, walkerStep, walkerAfterSteps}
@@ -75,14 +75,14 @@ pub record Demand2 : Type 0 where
   -- that list is an ordered one of 1 to 65,535 times, and the only one: the strip's plain list
   pub one-list : (s xs out : List ℕ) → Within 32 xs → PacksTo xs s out → Packable xs × (xs ≡ plainList s)
   -- on an accepted strip no search is refused, and search gives the number of strikes earlier than its target
-  pub searches : (s : List ℕ) → Accepted s → (t : ℕ) → searchOf s t ≡ found (smaller t (plainList s)) (length (path (plainList s) t))
+  pub searches : (s : List ℕ) → Accepted s → (t : ℕ) → searchOf s t ≡ gives (found (smaller t (plainList s)) (length (path (plainList s) t)))
 
 -- ---- demand 3
 
 -- A sweep of a strip by these targets that is not refused, carries `nodes` and leaves the answers `after`.
 pub record SweepsAs (s ts : List ℕ) (nodes : ℕ) (after : List ℕ) : Type 0 where
   -- at every index a search of the target is not refused either, and gives the sweep's position
-  pub searches : (i : ℕ) → i < length ts → searchOf s (getD ts i 0) ≡ found (getD after i 0) (length (path (plainList s) (getD ts i 0)))
+  pub searches : (i : ℕ) → i < length ts → searchOf s (getD ts i 0) ≡ gives (found (getD after i 0) (length (path (plainList s) (getD ts i 0))))
   -- which is the number of smaller times
   pub positions : (i : ℕ) → i < length ts → getD after i 0 ≡ smaller (getD ts i 0) (plainList s)
   -- there is nothing else in the answers
@@ -100,10 +100,10 @@ CodeSweepsAs s ts (sweeping.Refused r) after = ⊥
 -- an accepted strip, targets none of which is less than the one before, and as many answers
 pub record Demand3 : Type 0 where
   pub sweeps : (s ts answers : List ℕ) → Accepted s → T (ordered ts) → length answers ≡ length ts
-      → (nodes : ℕ) × (sweepOf s ts (length answers) .answer ≡ found 0 nodes) × SweepsAs s ts nodes (sweepOutput s ts answers)
+      → (nodes : ℕ) × (sweepOf s ts (length answers) ≡ gives nodes) × SweepsAs s ts nodes (sweepOutput s ts answers)
   -- and so does the code: any answer, with the answers left, that meets the contract of `Strip::sweep`
   pub code-sweeps : (s ts answers : List ℕ) → Accepted s → T (ordered ts) → length answers ≡ length ts
-      → (r : Swept) (after : List ℕ) → swept r ≡ sweepOf s ts (length answers) .answer → after ≡ sweepOutput s ts answers → CodeSweepsAs s ts r after
+      → (r : Swept) (after : List ℕ) → swept r ≡ sweepOf s ts (length answers) → after ≡ sweepOutput s ts answers → CodeSweepsAs s ts r after
 
 -- ---- the pin walker
 
@@ -111,5 +111,5 @@ pub record Demand3 : Type 0 where
 -- opens. Every step after them says end.
 pub record WalkerLists : Type 0 where
   pub times : (w : Walker) → w .next ≡ 0 → Accepted (now (w .strip)) → (k : ℕ) → k < length (plainList (now (w .strip)))
-      → walkerStep (walkerAfterSteps k w) ≡ some (found (getD (plainList (now (w .strip))) k 0) (length (toward (length (plainList (now (w .strip)))) k)))
-  pub ends : (w : Walker) → w .next ≡ 0 → Accepted (now (w .strip)) → (k : ℕ) → length (plainList (now (w .strip))) ≤ k → walkerStep (walkerAfterSteps k w) ≡ none
+      → walkerStep (walkerAfterSteps k w) ≡ gives (some (found (getD (plainList (now (w .strip))) k 0) (length (toward (length (plainList (now (w .strip)))) k))))
+  pub ends : (w : Walker) → w .next ≡ 0 → Accepted (now (w .strip)) → (k : ℕ) → length (plainList (now (w .strip))) ≤ k → walkerStep (walkerAfterSteps k w) ≡ gives none

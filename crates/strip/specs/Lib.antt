@@ -1,8 +1,7 @@
--- What a strip and its calls mean, in the order of 01: Layout and Image its bytes, Opening and Calls what the calls answer. Lists,
--- Outcomes and Refusals have the words that these use. Marked has 01's cases, Demands what is demanded of the calls together,
+-- What a strip and its calls mean, in the order of 01: Layout and Image its bytes, Opening and Calls what the calls answer. Lists
+-- and Refusals have the words that these use, with Outcomes of `tree`. Marked has 01's cases, Demands what is demanded of the calls together,
 -- Promises what else is shown. Opened, Written and Read are cited by private functions alone.
 pub mod Lists
-pub mod Outcomes
 pub mod Refusals
 pub mod Layout
 pub mod Image

@@ -17,11 +17,12 @@ use Rattle.tree.specs.Lists.{ordered}
 use Rattle.tree.specs.Stored.{timeOf, timeAbove, stored, storedFrom}
 use Rattle.tree.specs.Levels.{partOf, fetchedAt}
 use Rattle.tree.specs.Times.{nodeTimeIn, nodeTime}
-use Rattle.tree.specs.Walks.{walkIn, walk, Answer, found, stopped, met, toward, lastOf, accessAnswer, remember, targetFrom}
-use Rattle.tree.specs.Sweeps.{dropped, sweepFrom}
+use Rattle.tree.specs.declared.walking.Found.{Found}
+use Rattle.tree.specs.Outcomes.{Outcome, gives, refuses, test, verdict}
+use Rattle.tree.specs.Walks.{walkIn, walk, found, met, toward, lastOf, accessAnswer, remember, targetFrom}
+use Rattle.tree.specs.Sweeps.{dropped, legsFrom, opened, positions}
 use Rattle.tree.specs.Listing.{timesFrom}
 use Rattle.strip.specs.Lists.{firstLower}
-use Rattle.strip.specs.Outcomes.{Outcome, gives, refuses, verdict}
 use Rattle.strip.specs.Layout.{maxPins, maxHeight, header, entry, endAfter, filled, laidOut}
 use Rattle.strip.specs.Image.{codeFor, partFor, joined, stripOf, image}
 use Rattle.strip.specs.Opening.{codeTests, opening}
@@ -62,17 +63,17 @@ cut = header 3 ++ entry 3 1 ++ entry 32 4 ++ (0xa0 ∷ 0 ∷ 0 ∷ 0 ∷ 0 ∷ [
 pub data Case : Type 0 where
   -- the list, the output lent, the answer, and the output after it
   packs : List ℕ → List ℕ → Outcome ℕ → List ℕ → Case
-  accesses : List ℕ → ℕ → Answer → Case
-  searches : List ℕ → ℕ → Answer → Case
-  upTos : List ℕ → ℕ → Answer → Case
+  accesses : List ℕ → ℕ → Outcome Found → Case
+  searches : List ℕ → ℕ → Outcome Found → Case
+  upTos : List ℕ → ℕ → Outcome Found → Case
   -- the strip, the targets, the answers lent, the answer, and the answers after it
-  sweeps : List ℕ → List ℕ → List ℕ → Answer → List ℕ → Case
+  sweeps : List ℕ → List ℕ → List ℕ → Outcome ℕ → List ℕ → Case
   checks : List ℕ → Outcome ℕ → Case
   -- the strip, the output lent, the answer, and the output after it
   unpacks : List ℕ → List ℕ → Outcome ℕ → List ℕ → Case
   repeats : List ℕ → ℕ → Outcome (Option ℕ) → Case
   -- the strip, a pin walker's next position, what its step says, and the next position after it
-  steps : List ℕ → ℕ → Option Answer → ℕ → Case
+  steps : List ℕ → ℕ → Outcome (Option Found) → ℕ → Case
   root : ℕ → ℕ → Case
   tall : ℕ → ℕ → Case
 
@@ -81,11 +82,11 @@ marked =
     -- 1 and 2, with a byte more than is needed
     packs listA (replicate 30 7) (gives 29) (a ++ (7 ∷ [])) ∷ packs (0 ∷ []) (replicate 13 7) (gives 12) (b ++ (7 ∷ []))
     -- 3, 4, 5 and 7
-    ∷ searches a 250 (found 1 3) ∷ searches a 251 (found 3 3) ∷ searches a 1001 (found 5 2) ∷ searches (image (5 ∷ 5 ∷ 5 ∷ [])) 5 (found 0 2)
+    ∷ searches a 250 (gives (found 1 3)) ∷ searches a 251 (gives (found 3 3)) ∷ searches a 1001 (gives (found 5 2)) ∷ searches (image (5 ∷ 5 ∷ 5 ∷ [])) 5 (gives (found 0 2))
     -- 6, and no targets
-    ∷ sweeps a (250 ∷ 251 ∷ 1001 ∷ []) (replicate 3 7) (found 0 5) (1 ∷ 3 ∷ 5 ∷ []) ∷ sweeps a [] [] (found 0 0) []
+    ∷ sweeps a (250 ∷ 251 ∷ 1001 ∷ []) (replicate 3 7) (gives 5) (1 ∷ 3 ∷ 5 ∷ []) ∷ sweeps a [] [] (gives 0) []
     -- 8, and the greatest time
-    ∷ upTos a 250 (found 3 3) ∷ upTos a 4294967295 (found 5 0)
+    ∷ upTos a 250 (gives (found 3 3)) ∷ upTos a 4294967295 (gives (found 5 0))
     -- 9
     ∷ root 1 1 ∷ root 2 2 ∷ root 3 2 ∷ root 4 3 ∷ root 5 4 ∷ root 6 4
     -- 10
@@ -93,37 +94,37 @@ marked =
     -- A and B are accepted, and A unpacks, with an entry more than is needed
     ∷ checks a (gives 5) ∷ checks b (gives 1) ∷ unpacks a (replicate 6 7) (gives 5) (listA ++ (7 ∷ []))
     -- list A by access
-    ∷ accesses a 0 (found 100 3) ∷ accesses a 1 (found 250 2) ∷ accesses a 2 (found 250 3) ∷ accesses a 3 (found 400 1) ∷ accesses a 4 (found 1000 2)
+    ∷ accesses a 0 (gives (found 100 3)) ∷ accesses a 1 (gives (found 250 2)) ∷ accesses a 2 (gives (found 250 3)) ∷ accesses a 3 (gives (found 400 1)) ∷ accesses a 4 (gives (found 1000 2))
     -- list A by the steps of a pin walker, then end, there and beyond
-    ∷ steps a 0 (some (found 100 3)) 1 ∷ steps a 1 (some (found 250 2)) 2 ∷ steps a 2 (some (found 250 3)) 3 ∷ steps a 3 (some (found 400 1)) 4
-    ∷ steps a 4 (some (found 1000 2)) 5 ∷ steps a 5 none 5 ∷ steps a 4294967296 none 4294967296
+    ∷ steps a 0 (gives (some (found 100 3))) 1 ∷ steps a 1 (gives (some (found 250 2))) 2 ∷ steps a 2 (gives (some (found 250 3))) 3 ∷ steps a 3 (gives (some (found 400 1))) 4
+    ∷ steps a 4 (gives (some (found 1000 2))) 5 ∷ steps a 5 (gives none) 5 ∷ steps a 4294967296 (gives none) 4294967296
     -- a refused step does not move it; beyond the end only opening is refused, and it does not look for 11
-    ∷ steps (set b 7 1) 0 (some (stopped 9 1)) 0 ∷ steps low 0 (some (stopped 10 2)) 0 ∷ steps low 2 none 2 ∷ steps (take 3 b) 7 (some (stopped 5 0)) 7
-    ∷ steps fallen 3 (some (found 400 1)) 4
+    ∷ steps (set b 7 1) 0 (refuses 9 1) 0 ∷ steps low 0 (refuses 10 2) 0 ∷ steps low 2 (gives none) 2 ∷ steps (take 3 b) 7 (refuses 5 0) 7
+    ∷ steps fallen 3 (gives (some (found 400 1))) 4
     -- the greatest pin count has the greatest height, and one more has not
     ∷ tall maxPins maxHeight ∷ tall (maxPins + 1) (maxHeight + 1)
     -- examples of refusals 1, 3 and 4
     ∷ packs [] (7 ∷ []) (refuses 1 0) (7 ∷ []) ∷ packs (7 ∷ 6 ∷ []) (7 ∷ []) (refuses 3 1) (7 ∷ []) ∷ packs (0 ∷ []) (replicate 11 7) (refuses 4 12) (replicate 11 7)
     -- of 5, 6, 7, 8, 13 and 14
-    ∷ searches (take 3 b) 0 (stopped 5 0) ∷ searches (set b 2 0x4f) 0 (stopped 6 0) ∷ searches (set b 4 2) 0 (stopped 7 0) ∷ searches (set b 7 33) 0 (stopped 8 1)
-    ∷ searches (b ++ (0 ∷ [])) 0 (stopped 13 0) ∷ accesses a 5 (stopped 14 0)
+    ∷ searches (take 3 b) 0 (refuses 5 0) ∷ searches (set b 2 0x4f) 0 (refuses 6 0) ∷ searches (set b 4 2) 0 (refuses 7 0) ∷ searches (set b 7 33) 0 (refuses 8 1)
+    ∷ searches (b ++ (0 ∷ [])) 0 (refuses 13 0) ∷ accesses a 5 (refuses 14 0)
     -- of 9 and 10
-    ∷ accesses (set b 7 1) 0 (stopped 9 1) ∷ searches low 0 (stopped 10 2)
+    ∷ accesses (set b 7 1) 0 (refuses 9 1) ∷ searches low 0 (refuses 10 2)
     -- of 11 and 12, and of 4 for unpack
     ∷ checks fallen (refuses 11 3) ∷ checks wasteful (refuses 12 0) ∷ unpacks a (replicate 4 7) (refuses 4 5) (replicate 4 7)
     -- a refused check writes nothing; repeat does not look for 12, and tells 11 or the gap by what comes first
     ∷ unpacks wasteful (7 ∷ []) (refuses 12 0) (7 ∷ []) ∷ repeats wasteful 1340 (gives none)
     ∷ repeats fallen 150 (refuses 11 3) ∷ repeats fallen 151 (gives (some 1)) ∷ repeats low 1 (refuses 10 2)
     -- of 15 and 16, both after opening
-    ∷ sweeps a (1 ∷ 2 ∷ []) (replicate 3 7) (stopped 15 0) (replicate 3 7) ∷ sweeps a (9 ∷ 8 ∷ []) (replicate 2 7) (stopped 16 1) (replicate 2 7)
-    ∷ sweeps (take 3 b) (9 ∷ 8 ∷ []) (7 ∷ []) (stopped 5 0) (7 ∷ []) ∷ sweeps a (9 ∷ 8 ∷ []) (7 ∷ []) (stopped 15 0) (7 ∷ [])
+    ∷ sweeps a (1 ∷ 2 ∷ []) (replicate 3 7) (refuses 15 0) (replicate 3 7) ∷ sweeps a (9 ∷ 8 ∷ []) (replicate 2 7) (refuses 16 1) (replicate 2 7)
+    ∷ sweeps (take 3 b) (9 ∷ 8 ∷ []) (7 ∷ []) (refuses 5 0) (7 ∷ []) ∷ sweeps a (9 ∷ 8 ∷ []) (7 ∷ []) (refuses 15 0) (7 ∷ [])
     -- a sweep met by 9 or 10 has written the answers before it, and one by no targets opens no node
-    ∷ sweeps cut (5 ∷ 6 ∷ 7 ∷ []) (replicate 3 7) (stopped 9 3) (0 ∷ 7 ∷ 7 ∷ []) ∷ sweeps high (5 ∷ 6 ∷ 7 ∷ []) (replicate 3 7) (stopped 10 3) (0 ∷ 7 ∷ 7 ∷ [])
-    ∷ sweeps (set b 7 1) [] [] (found 0 0) []
+    ∷ sweeps cut (5 ∷ 6 ∷ 7 ∷ []) (replicate 3 7) (refuses 9 3) (0 ∷ 7 ∷ 7 ∷ []) ∷ sweeps high (5 ∷ 6 ∷ 7 ∷ []) (replicate 3 7) (refuses 10 3) (0 ∷ 7 ∷ 7 ∷ [])
+    ∷ sweeps (set b 7 1) [] [] (gives 0) []
     -- opening's own 1 and second 5; two faults at once, of which the first tested is told; no refusal but opening's at the greatest time
-    ∷ searches (set b 6 0) 0 (stopped 1 0) ∷ searches (set b 6 5) 0 (stopped 5 0)
-    ∷ searches (set (set b 4 2) 6 0) 0 (stopped 7 0) ∷ searches (set b 7 33 ++ (0 ∷ [])) 0 (stopped 8 1)
-    ∷ upTos (b ++ (0 ∷ [])) 4294967295 (stopped 13 0) ∷ upTos low 4294967295 (found 2 0)
+    ∷ searches (set b 6 0) 0 (refuses 1 0) ∷ searches (set b 6 5) 0 (refuses 5 0)
+    ∷ searches (set (set b 4 2) 6 0) 0 (refuses 7 0) ∷ searches (set b 7 33 ++ (0 ∷ [])) 0 (refuses 8 1)
+    ∷ upTos (b ++ (0 ∷ [])) 4294967295 (refuses 13 0) ∷ upTos low 4294967295 (gives (found 2 0))
     ∷ []
 
 -- what a case says; `marked-says` in proofs/Marked has it of each entry
@@ -132,7 +133,7 @@ Says (packs xs out r after) = (packOf xs (length out) ≡ r) × (packOutput xs o
 Says (accesses s i r) = accessOf s i ≡ r
 Says (searches s t r) = searchOf s t ≡ r
 Says (upTos s t r) = upToOf s t ≡ r
-Says (sweeps s ts out r after) = (sweepOf s ts (length out) .answer ≡ r) × (sweepOutput s ts out ≡ after)
+Says (sweeps s ts out r after) = (sweepOf s ts (length out) ≡ r) × (sweepOutput s ts out ≡ after)
 Says (checks s r) = checkOf s ≡ r
 Says (unpacks s out r after) = (unpackOf s (length out) ≡ r) × (unpackOutput s out ≡ after)
 Says (repeats s r x) = repeatOf s r ≡ x
@@ -154,22 +155,19 @@ sameOutcome equal (gives a) (refuses q d) = false
 sameOutcome equal (refuses r c) (gives b) = false
 sameOutcome equal (refuses r c) (refuses q d) = eqb r q && eqb c d
 
-abbrev pub sameAnswer : Answer → Answer → Bool
-sameAnswer (found x k) (found y l) = eqb x y && eqb k l
-sameAnswer (found x k) (stopped q d) = false
-sameAnswer (stopped r c) (found y l) = false
-sameAnswer (stopped r c) (stopped q d) = eqb r q && eqb c d
+abbrev pub sameFound : Found → Found → Bool
+sameFound f g = eqb (f .value) (g .value) && eqb (f .nodes) (g .nodes)
 
 abbrev pub passes : Case → Bool
 passes (packs xs out r after) = sameOutcome eqb (packOf xs (length out)) r && same (packOutput xs out) after
-passes (accesses s i r) = sameAnswer (accessOf s i) r
-passes (searches s t r) = sameAnswer (searchOf s t) r
-passes (upTos s t r) = sameAnswer (upToOf s t) r
-passes (sweeps s ts out r after) = sameAnswer (sweepOf s ts (length out) .answer) r && same (sweepOutput s ts out) after
+passes (accesses s i r) = sameOutcome sameFound (accessOf s i) r
+passes (searches s t r) = sameOutcome sameFound (searchOf s t) r
+passes (upTos s t r) = sameOutcome sameFound (upToOf s t) r
+passes (sweeps s ts out r after) = sameOutcome eqb (sweepOf s ts (length out)) r && same (sweepOutput s ts out) after
 passes (checks s r) = sameOutcome eqb (checkOf s) r
 passes (unpacks s out r after) = sameOutcome eqb (unpackOf s (length out)) r && same (unpackOutput s out) after
 passes (repeats s r x) = sameOutcome (sameOption eqb) (repeatOf s r) x
-passes (steps s i x j) = sameOption sameAnswer (stepOf s i) x && eqb (nextOf s i) j
+passes (steps s i x j) = sameOutcome (sameOption sameFound) (stepOf s i) x && eqb (nextOf s i) j
 passes (root n p) = eqb (rootPlace n) p
 passes (tall n h) = eqb (height n) h
 
@@ -180,6 +178,6 @@ all (c ∷ cs) = passes c && all cs
 pub marked-pass : all marked ≡ true
 unfolding bits number sum fixed numbers padded kindOf rest layers kindBits widthIn widest bestChunked chosen fixedAt fetchLayers chunkedAt fetched height
     rootPlace childOf stretchIn stretch rank ordered timeOf timeAbove stored storedFrom partOf fetchedAt nodeTimeIn nodeTime walkIn walk met toward lastOf
-    accessAnswer remember targetFrom dropped sweepFrom firstLower verdict endAfter filled laidOut codeFor partFor joined stripOf codeTests opening packOf packOutput
+    accessAnswer remember targetFrom dropped legsFrom opened positions firstLower test verdict endAfter filled laidOut codeFor partFor joined stripOf codeTests opening packOf packOutput
     accessOf searchOf upToOf sweepOf sweepOutput timesFrom positionsTests listIn checkOf plainList unpackOf unpackOutput repeatFrom repeatOf stepOf nextOf
 marked-pass = refl

@@ -10,7 +10,7 @@ use Rattle.strip.specs.declared.opening.Status.the-variants as status
 use Rattle.strip.specs.declared.opening.Header.{Header}
 use Rattle.strip.specs.declared.opening.Header.the-variants as header
 use Rattle.strip.specs.declared.opening.Opening.{Opening}
-use Rattle.strip.specs.Outcomes.{Outcome, gives, refuses}
+use Rattle.tree.specs.Outcomes.{Outcome, gives, refuses}
 use Rattle.strip.specs.Refusals.{refusalNumber, carried}
 use Rattle.strip.specs.Layout.{pinsOf, partsStart}
 use Rattle.strip.specs.Opening.{opening}

@@ -9,7 +9,7 @@ use Rattle.codes.specs.declared.kinds.Kind.the-variants.{Fixed, Chunked, Refuse
 use Rattle.codes.specs.Codes.{kindOf}
 use Rattle.tree.specs.declared.nodes.Levels.{Levels}
 use Rattle.tree.specs.Shape.{height}
-use Rattle.strip.specs.Outcomes.{Outcome, Test, test, verdict}
+use Rattle.tree.specs.Outcomes.{Outcome, Test, test, verdict}
 use Rattle.strip.specs.Layout.{mark, version, twoAt, pinsOf, codeAt, lengthAt, partsStart, endAfter, laidOut}
 
 -- bytes 0..2 are the mark

@@ -5,14 +5,15 @@ use mathlib.Core.Bool.{cond}
 use mathlib.Core.List.{List}
 use mathlib.Core.Option.{none, some}
 use Prim.Native.Nat.{ℕ, suc, _+_, _-_, _*_, _^_, _≤_, _<_}
-use lib.Dec.{eqb, ltb}
+use lib.Dec.{eqb, leb}
 use lib.ListN.{length, getD}
 use Rattle.tree.specs.declared.nodes.Levels.{Levels}
 use Rattle.tree.specs.Lists.{smaller}
+use Rattle.tree.specs.declared.walking.Found.{Found}
+use Rattle.tree.specs.Outcomes.{gives}
 use Rattle.tree.specs.Times.{timesIn}
 use Rattle.tree.specs.Walks.{found, toward, searchNodes, path}
 use Rattle.strip.specs.Lists.{upTo, firstGap}
-use Rattle.strip.specs.Outcomes.{gives}
 use Rattle.strip.specs.Layout.{maxBytes, partsStart}
 use Rattle.strip.specs.Image.{Packable, image}
 use Rattle.strip.specs.Calls.{accessOf, searchOf, upToOf, repeatOf, stepOf}
@@ -34,11 +35,11 @@ ImageOpens = (xs : List ℕ) → Packable xs → (levels : Levels) × Opens xs l
 -- strikes earlier than its target, and counts the nodes of its path. Up-to gives the number of strikes at or before its time, and
 -- repeat the first position from 1 on whose gap is below r, or none. A step of a pin walker is the access below n, and end from n on.
 pub record ReadsBack (xs : List ℕ) : Type 0 where
-  pub access : (i : ℕ) → i < length xs → accessOf (image xs) i ≡ found (getD xs i 0) (length (toward (length xs) i))
-  pub search : (t : ℕ) → searchOf (image xs) t ≡ found (smaller t xs) (length (path xs t))
+  pub access : (i : ℕ) → i < length xs → accessOf (image xs) i ≡ gives (found (getD xs i 0) (length (toward (length xs) i)))
+  pub search : (t : ℕ) → searchOf (image xs) t ≡ gives (found (smaller t xs) (length (path xs t)))
   pub repeat : (r : ℕ) → repeatOf (image xs) r ≡ gives (firstGap r xs)
-  pub up-to : (t : ℕ) → t < 2 ^ 32 → upToOf (image xs) t ≡ found (upTo t xs) (cond (eqb t (2 ^ 32 - 1)) 0 (length (path xs (suc t))))
-  pub step : (i : ℕ) → stepOf (image xs) i ≡ cond (ltb i (length xs)) (some (found (getD xs i 0) (length (toward (length xs) i)))) none
+  pub up-to : (t : ℕ) → t < 2 ^ 32 → upToOf (image xs) t ≡ gives (found (upTo t xs) (cond (eqb t (2 ^ 32 - 1)) 0 (length (path xs (suc t)))))
+  pub step : (i : ℕ) → stepOf (image xs) i ≡ gives (cond (leb (length xs) i) none (some (found (getD xs i 0) (length (toward (length xs) i)))))
 
 abbrev pub RoundTrip : Type 0
 RoundTrip = (xs : List ℕ) → Packable xs → ReadsBack xs
@@ -49,5 +50,5 @@ RepeatLater = (s : List ℕ) (r i : ℕ) → repeatOf s r ≡ gives (some i) →
 
 -- 5. An access or a step that gives a time, on any strip, has opened a node or more. So no nodes can say end.
 pub record TimeOpens : Type 0 where
-  pub access : (s : List ℕ) (i t k : ℕ) → accessOf s i ≡ found t k → 1 ≤ k
-  pub step : (s : List ℕ) (i t k : ℕ) → stepOf s i ≡ some (found t k) → 1 ≤ k
+  pub access : (s : List ℕ) (i : ℕ) (f : Found) → accessOf s i ≡ gives f → 1 ≤ f .nodes
+  pub step : (s : List ℕ) (i : ℕ) (f : Found) → stepOf s i ≡ gives (some f) → 1 ≤ f .nodes

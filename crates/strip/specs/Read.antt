@@ -6,6 +6,7 @@ use Prim.Native.Nat.{ℕ, suc, _+_, _-_}
 use lib.Dec.{ltb}
 use lib.ListN.{length, getD}
 use Rattle.tree.specs.declared.nodes.Levels.{Levels}
+use Rattle.tree.specs.Outcomes.{Outcome, gives, refuses, test, verdict, after}
 use Rattle.tree.specs.Listing.{accesses}
 use Rattle.tree.specs.Chosen.{allChosen}
 use Rattle.strip.specs.declared.reading.Asked.{Asked}
@@ -13,7 +14,6 @@ use Rattle.strip.specs.declared.reading.Asked.the-variants as asking
 use Rattle.strip.specs.declared.reading.Told.{Told}
 use Rattle.strip.specs.declared.reading.Told.the-variants as telling
 use Rattle.strip.specs.Refusals.{refusalNumber, carried}
-use Rattle.strip.specs.Outcomes.{Outcome, gives, refuses, test, verdict, after}
 use Rattle.strip.specs.Calls.{roomFor, written, listIn, checkIn, repeatFrom}
 
 -- unpack's answer for a strip that is open

@@ -3,7 +3,7 @@ use mathlib.Core.List.{List}
 use Prim.Native.Nat.{ℕ, _+_, _-_}
 use lib.ListN.{length, getD}
 use Rattle.tree.specs.declared.nodes.Levels.{Levels}
-use Rattle.strip.specs.Outcomes.{Outcome}
+use Rattle.tree.specs.Outcomes.{Outcome}
 use Rattle.strip.specs.Layout.{entry}
 use Rattle.strip.specs.Image.{image}
 use Rattle.strip.specs.Calls.{roomFor, written}

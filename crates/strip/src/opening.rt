@@ -10,7 +10,7 @@ ghost use Prim.Native.Nat.{_^_, _<_, _≤_};
 ghost use lib.ListN.{length};
 ghost use Rattle.codes.specs.Codes.{kindOf};
 ghost use Rattle.strip.specs.Layout.{pinsOf, partsStart};
-ghost use Rattle.strip.specs.Outcomes.{verdict};
+ghost use Rattle.tree.specs.Outcomes.{verdict};
 ghost use Rattle.strip.specs.Opening.{headerTests, isRefused, levelTests, levelsIn, opening};
 ghost use Rattle.strip.specs.Opened.{opened, FitsOpen, headerOutcome, HeaderFits};
 

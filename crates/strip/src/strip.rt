@@ -11,6 +11,7 @@ use super::refusals::of_walk;
 use super::sweeping::sweep_open;
 use super::walker::Moved;
 use super::walker::Stepped;
+use tree::Found;
 use tree::GREATEST;
 use tree::Levels;
 use tree::Ranked;
@@ -19,9 +20,10 @@ ghost use Prim.Native.Nat.{ℕ};
 ghost use lib.ListN.{length};
 ghost use Rattle.tree.specs.Shape.{height, rootPlace, ranked};
 ghost use Rattle.tree.specs.Levels.{Fits};
-ghost use Rattle.strip.specs.Outcomes.{Outcome};
+ghost use Rattle.tree.specs.Outcomes.{Outcome};
+ghost use Rattle.tree.specs.Walks.{walked as walkedBelow};
 ghost use Rattle.strip.specs.Read.{told, counted};
-ghost use Rattle.strip.specs.Calls.{packOf, packOutput, packed, accessOf, accessIn, accessed, searchOf, searchIn, upToOf, searched, sweepOf, sweepOutput, swept, checkOf, unpackOf, unpackOutput, checked, repeatOf, repeated, stepIn, movedBy, stepOf, nextOf, stepped};
+ghost use Rattle.strip.specs.Calls.{packOf, packOutput, packed, accessOf, accessIn, searchOf, searchIn, upToOf, walked, sweepOf, sweepOutput, swept, checkOf, unpackOf, unpackOutput, checked, repeatOf, repeated, stepIn, movedBy, stepOf, nextOf, stepped};
 
 pub struct Strip {}
 
@@ -44,15 +46,9 @@ pub enum Repeated {
     Refused(Refusal),
 }
 
-// The time at a position, with the nodes opened.
-pub enum Accessed {
-    Time(u32, usize),
-    Refused(Refusal),
-}
-
-// The position that a search finds, or the number of strikes that up-to counts, with the nodes opened.
-pub enum Searched {
-    Position(usize, usize),
+// The time at a position, the position that a search finds, or the number of strikes that up-to counts, with the nodes opened.
+pub enum Walked {
+    Found(Found),
     Refused(Refusal),
 }
 
@@ -62,19 +58,25 @@ pub enum Swept {
     Refused(Refusal),
 }
 
+// What a walk of the tree answers, with the refusals of the calls.
+fn walked_of(answer: tree::Walked) -> Walked
+    ensures { λ r. ⌜ walked r ≡ walkedBelow answer ⌝ }
+{
+    match answer {
+        tree::Walked::Found(found) => Walked::Found(found),
+        tree::Walked::Refused(r) => Walked::Refused(of_walk(r)),
+    }
+}
+
 // An access to a strip that is open.
-fn access_open(s: &[u8], levels: Levels, i: usize) -> Accessed
+fn access_open(s: &[u8], levels: Levels, i: usize) -> Walked
     requires { ⌜ Fits levels (now s) ⌝ }
-    ensures { λ r. ⌜ accessed r ≡ accessIn (now (s .entry)) i levels ⌝ }
+    ensures { λ r. ⌜ walked r ≡ accessIn (now (s .entry)) i levels ⌝ }
 {
     if i >= levels.pins {
-        return Accessed::Refused(Refusal::Position);
+        return Walked::Refused(Refusal::Position);
     }
-    let found = tree::access(s, levels, i);
-    match found {
-        tree::Accessed::Time(t, nodes) => Accessed::Time(t, nodes),
-        tree::Accessed::Refused(r) => Accessed::Refused(of_walk(r)),
-    }
+    walked_of(tree::access(s, levels, i))
 }
 
 // A step of a pin walker on a strip that is open.
@@ -91,11 +93,11 @@ fn step_open(s: &[u8], levels: Levels, next: usize) -> Moved
     }
     let found = access_open(s, levels, next);
     match found {
-        Accessed::Time(t, nodes) => Moved {
-            step: Stepped::Time(t, nodes),
+        Walked::Found(f) => Moved {
+            step: Stepped::Found(f),
             next: next + 1,
         },
-        Accessed::Refused(r) => Moved {
+        Walked::Refused(r) => Moved {
             step: Stepped::Refused(r),
             next: next,
         },
@@ -103,15 +105,11 @@ fn step_open(s: &[u8], levels: Levels, next: usize) -> Moved
 }
 
 // A search of a strip that is open.
-fn search_open(s: &[u8], levels: Levels, target: u32) -> Searched
+fn search_open(s: &[u8], levels: Levels, target: u32) -> Walked
     requires { ⌜ Fits levels (now s) ⌝ }
-    ensures { λ r. ⌜ searched r ≡ searchIn (now (s .entry)) target levels ⌝ }
+    ensures { λ r. ⌜ walked r ≡ searchIn (now (s .entry)) target levels ⌝ }
 {
-    let found = tree::search(s, levels, target);
-    match found {
-        tree::Searched::Position(p, nodes) => Searched::Position(p, nodes),
-        tree::Searched::Refused(r) => Searched::Refused(of_walk(r)),
-    }
+    walked_of(tree::search(s, levels, target))
 }
 
 // What check and unpack are told. None is never told; 0 stands there so that the match is whole, and nothing is promised of it.
@@ -193,49 +191,52 @@ impl Strip {
     }
 
     // The time at position i.
-    pub fn access(s: &[u8], i: usize) -> Accessed
-        ensures { λ r. ⌜ accessed r ≡ accessOf (now (s .entry)) i ⌝ }
+    pub fn access(s: &[u8], i: usize) -> Walked
+        ensures { λ r. ⌜ walked r ≡ accessOf (now (s .entry)) i ⌝ }
     {
         let opening = opening_of(s);
         let status = opening.status;
         match status {
             Status::Open => access_open(s, opening.levels, i),
-            Status::Refused(r) => Accessed::Refused(r),
+            Status::Refused(r) => Walked::Refused(r),
         }
     }
 
     // The number of strikes before the target, on an accepted strip.
-    pub fn search(s: &[u8], target: u32) -> Searched
-        ensures { λ r. ⌜ searched r ≡ searchOf (now (s .entry)) target ⌝ }
+    pub fn search(s: &[u8], target: u32) -> Walked
+        ensures { λ r. ⌜ walked r ≡ searchOf (now (s .entry)) target ⌝ }
     {
         let opening = opening_of(s);
         let status = opening.status;
         match status {
             Status::Open => search_open(s, opening.levels, target),
-            Status::Refused(r) => Searched::Refused(r),
+            Status::Refused(r) => Walked::Refused(r),
         }
     }
 
     // The number of strikes at or before time t, on an accepted strip.
-    pub fn up_to(s: &[u8], t: u32) -> Searched
-        ensures { λ r. ⌜ searched r ≡ upToOf (now (s .entry)) t ⌝ }
+    pub fn up_to(s: &[u8], t: u32) -> Walked
+        ensures { λ r. ⌜ walked r ≡ upToOf (now (s .entry)) t ⌝ }
     {
         let opening = opening_of(s);
         let status = opening.status;
         match status {
             Status::Open => {
                 if t == GREATEST {
-                    return Searched::Position(opening.levels.pins, 0);
+                    return Walked::Found(Found {
+                        value: opening.levels.pins,
+                        nodes: 0,
+                    });
                 }
                 search_open(s, opening.levels, t + 1)
             }
-            Status::Refused(r) => Searched::Refused(r),
+            Status::Refused(r) => Walked::Refused(r),
         }
     }
 
     // Looks targets up, none less than the one before, in one walk, and writes the position of each.
     pub fn sweep(answers: &mut [u32], s: &[u8], targets: &[u32]) -> Swept
-        ensures { λ r. ⌜ swept r ≡ sweepOf (now (s .entry)) (now (targets .entry)) (length (now (answers .entry))) .answer ⌝ }
+        ensures { λ r. ⌜ swept r ≡ sweepOf (now (s .entry)) (now (targets .entry)) (length (now (answers .entry))) ⌝ }
         ensures { λ r. ⌜ now (answers .exit) ≡ sweepOutput (now (s .entry)) (now (targets .entry)) (now (answers .entry)) ⌝ }
     {
         let opening = opening_of(s);

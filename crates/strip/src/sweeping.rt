@@ -7,10 +7,9 @@ use super::strip::Swept;
 use tree::Levels;
 ghost use mathlib.Core.Path.{_≡_};
 ghost use lib.ListN.{length};
-ghost use Rattle.codes.specs.Lists.{atFront};
 ghost use Rattle.tree.specs.Levels.{Fits};
 ghost use Rattle.tree.specs.Sweeps.{swept as sweptBelow};
-ghost use Rattle.strip.specs.Calls.{sweepIn, swept};
+ghost use Rattle.strip.specs.Calls.{sweepIn, sweepOver, swept};
 
 // What the tree's sweep answers, with the refusals of the calls.
 fn swept_of(answer: tree::Swept) -> Swept
@@ -25,8 +24,8 @@ fn swept_of(answer: tree::Swept) -> Swept
 // Sweeps a strip that is open. A sweep of few targets has no marks, since making them would mostly take longer than they save.
 pub(crate) fn sweep_open(answers: &mut [u32], s: &[u8], levels: Levels, targets: &[u32]) -> Swept
     requires { ⌜ Fits levels (now s) ⌝ }
-    ensures { λ r. ⌜ swept r ≡ sweepIn (now (s .entry)) (now (targets .entry)) (length (now (answers .entry))) levels .answer ⌝ }
-    ensures { λ r. ⌜ now (answers .exit) ≡ atFront (sweepIn (now (s .entry)) (now (targets .entry)) (length (now (answers .entry))) levels .positions) (now (answers .entry)) ⌝ }
+    ensures { λ r. ⌜ swept r ≡ sweepIn (now (s .entry)) (now (targets .entry)) (length (now (answers .entry))) levels ⌝ }
+    ensures { λ r. ⌜ now (answers .exit) ≡ sweepOver (now (s .entry)) (now (targets .entry)) (now (answers .entry)) levels ⌝ }
 {
     let count = targets.len();
     if answers.len() != count {

@@ -1,12 +1,13 @@
 // The pin walker.
 use super::refusals::Refusal;
 use super::strip::Strip;
+use tree::Found;
 ghost use mathlib.Core.Path.{_≡_};
 ghost use Rattle.strip.specs.Calls.{walkerStep, stepped, walkerAfter};
 
 // The time at the next position, with the nodes opened, or the end.
 pub enum Stepped {
-    Time(u32, usize),
+    Found(Found),
     End,
     Refused(Refusal),
 }

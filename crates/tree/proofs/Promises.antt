@@ -15,10 +15,11 @@ use Rattle.tree.specs.declared.walking.Found.{Found}
 use Rattle.tree.specs.Times.{timesIn}
 use Rattle.tree.specs.Listing.{accesses}
 use Rattle.tree.specs.Walks.{toward, accessAnswer}
-use Rattle.tree.specs.Promises.{HeightLeast, Shape, Contents, HeldReads, DifferentFew, AccessOpens, StoredLevels, ListingFinds, ChosenStored, StoredChosen, DecodedChosen, ZeroMarks, SweepRises}
+use Rattle.tree.specs.Promises.{HeightLeast, Shape, Contents, HeldReads, DifferentFew, AccessOpens, StoredLevels, ListingFinds, ChosenStored, StoredChosen, DecodedChosen, ZeroMarks, OutcomeLaws, SweepRises}
 use Rattle.tree.proofs.Heights.{digits, height-bound, height-le, height-is}
 use Rattle.tree.proofs.Stretches.{stretch-root, stretch-left, stretch-right, node-iff}
 use Rattle.tree.proofs.Inorder.{tree}
+use Rattle.tree.proofs.Outcomes.{gives-same, gives-refuses, verdict-append, verdict-gives}
 use Rattle.tree.proofs.Preorder.{nodes-rise}
 use Rattle.tree.proofs.Ranks.{rank-lt, rank-found}
 use Rattle.tree.proofs.Walks.{walk-length, toward-on, met-gives}
@@ -121,6 +122,9 @@ decoded-chosen = record {
 
 pub zero-marks : ZeroMarks
 zero-marks = marks-zero
+
+pub outcome-laws : OutcomeLaws
+outcome-laws = record { same = gives-same; never = gives-refuses; append = verdict-append; given = verdict-gives }
 
 pub sweep-rises : SweepRises
 sweep-rises = nodes-rise

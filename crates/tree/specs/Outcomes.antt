@@ -26,7 +26,7 @@ abbrev pub Test : Type 0
 Test = Outcome (Unit {0})
 
 -- a condition of 01's table, with the number and what it carries
-abbrev pub test : Bool → ℕ → ℕ → Test
+unfoldable pub test : Bool → ℕ → ℕ → Test
 test holds r c = cond holds (refuses r c) (gives tt)
 
 -- the first refusal among outcomes, in their order, or else what is given

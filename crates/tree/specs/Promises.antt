@@ -1,10 +1,10 @@
 -- What is shown of the tree besides each function's contract. proofs/Promises proves each, as `height-least`, `shape`, `held-reads`,
 -- `different-few`, `access-opens`, `stored-levels`, `listing-finds`, `chosen-stored`, `stored-chosen`, `decoded-chosen`,
--- `zero-marks` and `sweep-rises`.
+-- `zero-marks`, `outcome-laws` and `sweep-rises`.
 use mathlib.Core.Path.{_≡_}
 use mathlib.Core.Logic.{_≢_, _↔_}
 use mathlib.Core.Bool.{Bool, true, false, cond}
-use mathlib.Core.List.{List, map}
+use mathlib.Core.List.{List, _++_, map}
 use Prim.Native.Nat.{ℕ, suc, _-_, _*_, _+_, _^_, _≤_, _<_, min}
 use lib.Dec.{T}
 use lib.ListN.{length, getD, replicate}
@@ -19,7 +19,7 @@ use Rattle.tree.specs.Stored.{timeOf, storedValues}
 use Rattle.tree.specs.Levels.{firstOf, levelOf, codeOf, partOf, levelValues, Stores}
 use Rattle.tree.specs.LevelMarks.{LevelMarks}
 use Rattle.tree.specs.declared.walking.Found.{Found}
-use Rattle.tree.specs.Outcomes.{Outcome, gives}
+use Rattle.tree.specs.Outcomes.{Outcome, gives, refuses, after, verdict}
 use Rattle.tree.specs.Times.{timesIn}
 use Rattle.tree.specs.Listing.{accesses, timesFrom, stopFrom, timesAll, stopAll}
 use Rattle.tree.specs.DecodedLevels.{decodedLevels, Decodes}
@@ -129,7 +129,14 @@ pub record DecodedChosen : Type 0 where
 abbrev pub ZeroMarks : Type 0
 ZeroMarks = (ends s : List ℕ) (n : ℕ) → LevelMarks ends s (replicate n 0)
 
--- 11. A sweep of any targets on any strip opens the nodes of a level from left to right, so none twice.
+-- 11. What is given is not refused, and is one thing. Of outcomes in order the first refusal decides, and what is given does not.
+pub record OutcomeLaws : Type 1 where
+  pub same : {A : Type 0} {a b : A} → gives a ≡ gives b → a ≡ b
+  pub never : {A : Type 0} {a : A} {r c : ℕ} → gives a ≡ refuses r c → ⊥
+  pub append : {A B C : Type 0} (os us : List (Outcome C)) (a : A) (b : B) → verdict (os ++ us) a ≡ after (verdict os b) (λ _. verdict us a)
+  pub given : {A C : Type 0} (os : List (Outcome C)) (a x : A) → verdict os a ≡ gives x → a ≡ x
+
+-- 12. A sweep of any targets on any strip opens the nodes of a level from left to right, so none twice.
 abbrev pub SweepRises : Type 0
 SweepRises = (n : ℕ) (time : ℕ → Outcome ℕ) (ts : List ℕ) (i j : ℕ) → let vs = sweepNodes n time ts in
     i < j → j < length vs → levelOf (getD vs i 0) ≡ levelOf (getD vs j 0) → getD vs i 0 < getD vs j 0

@@ -7,7 +7,7 @@ use mathlib.Core.List.{List}
 use Prim.Native.Nat.{ℕ}
 use lib.ListN.{getD}
 use borrow.Author.Tests.{eq-eqb, ne-eqb}
-use Rattle.strip.specs.Outcomes.{gives}
+use Rattle.tree.specs.Outcomes.{gives}
 use Rattle.strip.specs.Opening.{hasMark}
 use Rattle.strip.proofs.Openings.{cut-short, other-mark, other-version, no-pins, entries-cut, header-passes}
 use Rattle.strip.proofs.Layouts.{height-fits}

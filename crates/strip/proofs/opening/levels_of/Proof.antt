@@ -8,7 +8,7 @@ use native.Mathlib.Nat.{sub-zero}
 use native.Mathlib.Decide.{decLt}
 use lib.ListN.{getD}
 use Rattle.tree.specs.Shape.{height}
-use Rattle.strip.specs.Outcomes.{verdict}
+use Rattle.tree.specs.Outcomes.{verdict}
 use Rattle.strip.specs.Layout.{pinsOf, codeAt, lengthAt, partsStart, endAfter, entered, laidOut}
 use Rattle.strip.specs.Opening.{codeTests, lengthByEntries, lengthTest, levelTests, levelsIn}
 use Rattle.strip.proofs.Layouts.{height-fits, entered-none, entered-next, entered-all, end-start, end-next, laid-fits}

@@ -1,7 +1,7 @@
 -- The levels' tests come after the header's (`opening-steps`), and a header that passes has all that `levels_of` asks.
 use mathlib.Core.Path.{_≡_, sym, ap, _∙_}
 use Prim.Native.Nat.{ℕ}
-use Rattle.strip.specs.Outcomes.{Outcome, gives, verdict, after}
+use Rattle.tree.specs.Outcomes.{Outcome, gives, verdict, after}
 use Rattle.strip.specs.Layout.{pinsOf}
 use Rattle.strip.specs.Opening.{headerTests, levelTests, levelsIn}
 use Rattle.strip.specs.Opened.{headerOutcome}

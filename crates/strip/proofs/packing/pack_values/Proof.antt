@@ -4,7 +4,7 @@ use mathlib.Core.Path.{refl, ap}
 use lib.ListN.{length}
 use borrow.Author.Tests.{lt-ltb, le-ltb}
 use Rattle.tree.specs.Shape.{height}
-use Rattle.strip.specs.Outcomes.{verdict}
+use Rattle.tree.specs.Outcomes.{verdict, test}
 use Rattle.strip.specs.Image.{stripOf}
 use Rattle.strip.proofs.Layouts.{height-fits}
 use Rattle.strip.proofs.Plans.{plan-pins, plan-end}
@@ -29,7 +29,7 @@ element-copy-out-end c =
     omega (arith, ap height (plan-pins values (c .before .plan .result) (c .before .plan .ensures)), height-fits (length values) (c .before .before .before .before .before .pre .0))
 
 returns : tie.Need-returns
-unfolding verdict
+unfolding verdict test
 returns c =
     let a = c .before .before .before .before .before .before .before .args in
     let values = a .values .now in
@@ -51,7 +51,7 @@ same-length-2 : tie.Need-same-length-2
 same-length-2 c = search needs
 
 returns-2 : tie.Need-returns-2
-unfolding verdict
+unfolding verdict test
 returns-2 c =
     let a = c .before .before .before .before .before .before .before .before .before .before .before .before .before .before .args in
     let values = a .values .now in

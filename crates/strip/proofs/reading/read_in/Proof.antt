@@ -2,7 +2,7 @@
 use mathlib.Core.Path.{_≡_, refl, sym, ap, _∙_}
 use Prim.Native.Nat.{ℕ}
 use lib.ListN.{length}
-use Rattle.strip.specs.Outcomes.{Outcome}
+use Rattle.tree.specs.Outcomes.{Outcome}
 use Rattle.strip.specs.Calls.{written, listIn, checkIn}
 use Rattle.strip.specs.Read.{told, counted}
 use Rattle.strip.proofs.Checks.{unpack-refused, unpack-listed, accepted-whole, counted-gives, counted-refuses, counted-some}

@@ -4,13 +4,13 @@ use mathlib.Core.Path.{_≡_, refl, ap, _∙_}
 use mathlib.Core.List.{List}
 use Prim.Native.Nat.{ℕ}
 use lib.ListN.{length}
-use Rattle.codes.specs.Lists.{atFront}
-use Rattle.tree.specs.Walks.{Answer, stopped}
 use Rattle.tree.specs.Buffers.{replaced}
-use Rattle.tree.specs.Sweeps.{sweepAll}
+use Rattle.tree.specs.Outcomes.{Outcome, refuses}
+use Rattle.tree.specs.Times.{timesIn}
+use Rattle.tree.specs.Sweeps.{sweepAnswer, sweepPositions}
 use Rattle.tree.proofs.Promises.{zero-marks}
 use Rattle.tree.proofs.Buffers.{replaced-front}
-use Rattle.strip.specs.Calls.{sweepIn}
+use Rattle.strip.specs.Calls.{sweepIn, sweepOver}
 use Rattle.strip.proofs.Gaps.{not-ordered, is-ordered}
 use Rattle.strip.proofs.Sweeps.{lengths-differ, targets-fall, targets-follow}
 use borrow.Author.Needs.{needs}
@@ -20,7 +20,7 @@ use Rattle.strip.proofs.sweeping.sweep_open.Tie as tie
 returns : tie.Need-returns
 returns c =
     let a = c .before .before .before .before .args in
-    rw (lengths-differ (a .s .now) (a .targets .now) (length (a .answers .now)) (a .levels) (c .if1 .taken)) (refl, refl)
+    rw (lengths-differ (a .levels) (a .targets .now) (length (a .answers .now)) (c .if1 .taken)) (refl, refl)
 
 first-lower-requires : tie.Need-first-lower-requires
 first-lower-requires c κs = search needs
@@ -28,17 +28,16 @@ first-lower-requires c κs = search needs
 returns-2 : tie.Need-returns-2
 returns-2 c =
     let a = c .before .before .before .before .before .before .args in
-    rw (targets-fall (a .s .now) (a .targets .now) (length (a .answers .now)) (a .levels) (omega arith) (not-ordered (a .targets .now) (omega arith))) (ap (stopped 16) (c .before .first-lower .ensures), refl)
+    rw (targets-fall (a .levels) (a .targets .now) (length (a .answers .now)) (omega arith) (not-ordered (a .targets .now) (omega arith))) (ap (refuses 16) (c .before .first-lower .ensures), refl)
 
 -- where targets follow each other, with an answer for each, what the tree's sweep answers and writes is the call's
-follows : (c : tie.Else2) {o p : Answer} {after : List ℕ} → let a = c .before .before .before .before .before .before .args in let all = sweepAll (a .levels) (a .s .now) (a .targets .now) in
-    o ≡ p → p ≡ all .answer → after ≡ replaced (a .answers .now) 0 (all .positions)
-    → let call = sweepIn (a .s .now) (a .targets .now) (length (a .answers .now)) (a .levels) in
-    (o ≡ call .answer) × (after ≡ atFront (call .positions) (a .answers .now))
+follows : (c : tie.Else2) {o p : Outcome ℕ} {after : List ℕ} → let a = c .before .before .before .before .before .before .args in let n = a .levels .pins in let time = timesIn (a .levels) (a .s .now) in
+    o ≡ p → p ≡ sweepAnswer n time (a .targets .now) → after ≡ replaced (a .answers .now) 0 (sweepPositions n time (a .targets .now))
+    → (o ≡ sweepIn (a .s .now) (a .targets .now) (length (a .answers .now)) (a .levels)) × (after ≡ sweepOver (a .s .now) (a .targets .now) (a .answers .now) (a .levels))
 follows c o p e =
     let a = c .before .before .before .before .before .before .args in
-    rw (targets-follow (a .s .now) (a .targets .now) (length (a .answers .now)) (a .levels) (omega arith) (is-ordered (a .targets .now) (omega arith)))
-    (o ∙ p, e ∙ replaced-front (a .answers .now) (sweepAll (a .levels) (a .s .now) (a .targets .now) .positions))
+    rw (targets-follow (a .levels) (a .targets .now) (length (a .answers .now)) (omega arith) (is-ordered (a .targets .now) (omega arith)))
+    (o ∙ p, e ∙ replaced-front (a .answers .now) (sweepPositions (a .levels .pins) (timesIn (a .levels) (a .s .now)) (a .targets .now)))
 
 slice-aggregate-sweep : tie.Need-slice-aggregate-sweep
 slice-aggregate-sweep c = search needs

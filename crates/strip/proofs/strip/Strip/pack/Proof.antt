@@ -3,7 +3,7 @@ use native.Mathlib.Omega.{arith}
 use mathlib.Core.Path.{refl}
 use lib.ListN.{length}
 use borrow.Author.Tests.{lt-ltb, le-ltb, eq-eqb, ne-eqb}
-use Rattle.strip.specs.Outcomes.{verdict}
+use Rattle.tree.specs.Outcomes.{verdict, test}
 use Rattle.strip.specs.Layout.{maxPins}
 use Rattle.strip.specs.Calls.{packOf, packOutput}
 use Rattle.strip.proofs.Gaps.{not-ordered, is-ordered}
@@ -12,13 +12,13 @@ use Rattle.strip.proofs.strip.Strip.pack.Statement.{statement}
 use Rattle.strip.proofs.strip.Strip.pack.Tie as tie
 
 returns : tie.Need-returns
-unfolding packOf packOutput verdict
+unfolding packOf packOutput verdict test
 returns c =
     let xs = c .before .before .before .args .times .now in
     rw (eq-eqb (length xs) 0 (omega arith)) (refl, refl)
 
 returns-2 : tie.Need-returns-2
-unfolding packOf packOutput verdict
+unfolding packOf packOutput verdict test
 returns-2 c =
     let xs = c .before .before .before .before .args .times .now in
     rw (ne-eqb (length xs) 0 (λ e. omega arith), lt-ltb maxPins (length xs) (omega arith)) (refl, refl)
@@ -27,7 +27,7 @@ first-lower-requires : tie.Need-first-lower-requires
 first-lower-requires c κs = search needs
 
 returns-3 : tie.Need-returns-3
-unfolding packOf packOutput verdict
+unfolding packOf packOutput verdict test
 returns-3 c =
     let xs = c .before .before .before .before .before .before .args .times .now in
     rw (ne-eqb (length xs) 0 (λ e. omega arith), le-ltb maxPins (length xs) (omega arith), not-ordered xs (omega (arith, c .before .first-lower .ensures)), c .before .first-lower .ensures) (refl, refl)
@@ -41,7 +41,7 @@ same-length : tie.Need-same-length
 same-length c = search needs
 
 returns-4 : tie.Need-returns-4
-unfolding packOf packOutput verdict
+unfolding packOf packOutput verdict test
 returns-4 c =
     let xs = c .before .before .before .before .before .before .before .before .before .before .args .times .now in
     rw (ne-eqb (length xs) 0 (λ e. omega arith), le-ltb maxPins (length xs) (omega arith), is-ordered xs (omega (arith, c .before .before .before .before .before .first-lower .ensures)))
