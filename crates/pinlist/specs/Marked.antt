@@ -8,7 +8,7 @@ use Rattle.codes.specs.Fetch.{fixedAt, fetchLayers, chunkedAt, fetched}
 use Rattle.tree.specs.Shape.{height, rootPlace, childOf, stretchIn, stretch, rank}
 use Rattle.tree.specs.Lists.{ordered}
 use Rattle.tree.specs.Stored.{timeOf, timeAbove, stored, storedFrom}
-use Rattle.tree.specs.Levels.{partOf, fetchedAt}
+use Rattle.tree.specs.Levels.{fetchedAt}
 use Rattle.tree.specs.Outcomes.{test, verdict}
 use Rattle.tree.specs.Times.{nodeTimeIn, nodeTime}
 use Rattle.tree.specs.Walks.{walkIn, walk, met, toward, lastOf, accessAnswer}
@@ -27,7 +27,7 @@ pub record Marked : Type 0 where
 
 pub marked : Marked
 unfolding bits number sum fixed numbers padded kindOf rest layers kindBits widthIn widest bestChunked chosen fixedAt fetchLayers chunkedAt fetched height
-    rootPlace childOf stretchIn stretch rank ordered timeOf timeAbove stored storedFrom partOf fetchedAt nodeTimeIn nodeTime walkIn walk met toward lastOf
+    rootPlace childOf stretchIn stretch rank ordered timeOf timeAbove stored storedFrom fetchedAt nodeTimeIn nodeTime walkIn walk met toward lastOf
     accessAnswer test verdict endAfter filled laidOut codeFor partFor joined stripOf codeTests opening timesFrom positionsTests listIn checkOf plainList placesIn
     decimal numeral header line linesFrom refusalLine printed
 marked = record { listed = refl; refused = refl }

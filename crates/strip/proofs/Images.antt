@@ -10,14 +10,14 @@ use lib.ListN.{length, drop, getD, length-append}
 use lib.Seq.{getD-drop, drop-at, take-at}
 use Rattle.codes.specs.declared.kinds.Kind.{Kind}
 use Rattle.codes.specs.declared.kinds.Kind.the-variants.{Fixed, Chunked, Refused}
-use Rattle.codes.specs.Codes.{kindOf, part, Within, Holds}
+use Rattle.codes.specs.Codes.{kindOf, Within, Holds}
 use Rattle.tree.specs.Shape.{height}
 use Rattle.tree.specs.Stored.{storedValues}
 use Rattle.tree.specs.Levels.{codeOf, partOf, levelValues, Stores}
 use Rattle.tree.proofs.Promises.{stored-levels}
 use Rattle.tree.specs.Outcomes.{Outcome, Test, gives, verdict, after}
 use Rattle.strip.specs.Layout.{header, pinsOf, codeAt, lengthAt, partsStart, endAfter}
-use Rattle.strip.specs.Image.{Packable, valuesAt, codeFor, partFor, lengthFor, planned, entryFor, joined, stripOf, image}
+use Rattle.strip.specs.Image.{Packable, codeFor, partFor, lengthFor, planned, entryFor, joined, stripOf, image}
 use Rattle.strip.specs.Opening.{headerTests, isRefused, codeTests, lengthByEntries, lengthTest, levelTests, levelsIn, opening}
 use Rattle.strip.proofs.Pieces.{joined-split, length-joined}
 use Rattle.strip.proofs.Layouts.{end-same, laid-same}
@@ -98,7 +98,7 @@ module _ (values : List ℕ) (some : 1 ≤ length values) (few : length values <
   known : (i : ℕ) → i < height (pinsOf (stripOf values)) → isRefused (kindOf (codeAt (stripOf values) i)) ≡ false
   known i l =
       let k = rw pins-back at l in
-      rw (code-back i k) (holds-known (kindOf (codeFor values i)) (valuesAt values i) (level-holds values w i))
+      rw (code-back i k) (holds-known (kindOf (codeFor values i)) (levelValues values i) (level-holds values w i))
 
   pub strip-opens : opening (stripOf values) ≡ gives (planned values)
   strip-opens =
@@ -108,12 +108,10 @@ module _ (values : List ℕ) (some : 1 ≤ length values) (few : length values <
       ∙ length-agrees s (levelsIn s) told-back ∙ ap gives levels-back
 
   -- the part of a level, where the plan says
-  pub part-back : (d : ℕ) → d < height (length values) → partOf (planned values) (stripOf values) (suc d) ≡ partFor values d
-  unfolding partOf stripOf
+  pub part-back : (d : ℕ) → d < height (length values) → partOf (planned values .ends) (stripOf values) d ≡ partFor values d
+  unfolding stripOf
   part-back d l =
       let h = height (length values) in
-      let e : suc d - 1 ≡ d = omega arith in
-      let next : suc d ≡ d + 1 = omega arith in
       let k = plan-at values few d l in
       let front = header (length values) ++ joined (entryFor values) h in
       let before = joined (partFor values) d in
@@ -122,7 +120,7 @@ module _ (values : List ℕ) (some : 1 ≤ length values) (few : length values <
       let len : length (front ++ before) ≡ at =
       rw (length-append front before, length-append (header (length values)) (joined (entryFor values) h), length-joined (entryFor values) 5 (λ i. refl) h, parts-end values d) in
       let split : front ++ joined (partFor values) h ≡ front ++ before ++ (partFor values d ++ r .0) = ap (λ (x : List ℕ). front ++ x) (r .1) ∙ sym (append-assoc front before (partFor values d ++ r .0)) in
-      rw (e, k .starts, next, k .ends-at, add-sub-cancel-left at (lengthFor values d), split, drop-at (front ++ before) (partFor values d ++ r .0) at len)
+      rw (k .starts, k .ends-at, add-sub-cancel-left at (lengthFor values d), split, drop-at (front ++ before) (partFor values d ++ r .0) at len)
       (take-at (partFor values d) (r .0) (lengthFor values d) refl)
 
 -- ---- the image of a list
@@ -144,23 +142,14 @@ module _ (xs : List ℕ) (p : Packable xs) where
   list-opens = strip-opens (storedValues xs) some-values few-values within
 
   -- the code of a level, by the plan
-  pub image-code : (d : ℕ) → d < height (length xs) → codeOf (planned (storedValues xs)) (suc d) ≡ codeFor (storedValues xs) d
-  image-code d l =
-      let e : suc d - 1 ≡ d = omega arith in
-      rw e (plan-at (storedValues xs) few-values d (rw count l) .code-is)
+  pub image-code : (d : ℕ) → d < height (length xs) → codeOf (planned (storedValues xs)) d ≡ codeFor (storedValues xs) d
+  image-code d l = plan-at (storedValues xs) few-values d (rw count l) .code-is
 
   -- its levels hold what the tree of the list stores
   pub image-stores : Stores (planned (storedValues xs)) (image xs) xs
   unfolding partFor
   image-stores = record {
     pins-are = plan-pins (storedValues xs) (planned (storedValues xs)) refl ∙ count;
-    holds = holds;
-    parts-are = parts;
+    holds = λ d h. rw (image-code d h) (level-holds (storedValues xs) within d);
+    parts-are = λ d h. rw (image-code d h) (part-back (storedValues xs) some-values few-values within d (rw count h));
   }
-    where
-      holds : (l : ℕ) → 1 ≤ l → l ≤ height (length xs) → Holds (kindOf (codeOf (planned (storedValues xs)) l)) (levelValues (storedValues xs) l)
-      holds (suc d) a b = rw (image-code d b) (level-holds (storedValues xs) within d)
-
-      parts : (l : ℕ) → 1 ≤ l → l ≤ height (length xs)
-          → partOf (planned (storedValues xs)) (image xs) l ≡ part (codeOf (planned (storedValues xs)) l) (levelValues (storedValues xs) l)
-      parts (suc d) a b = rw (image-code d b) (part-back (storedValues xs) some-values few-values within d (rw count b))

@@ -5,7 +5,6 @@ use mathlib.Core.Bool.{true, _&&_, and-eq-true-iff}
 use mathlib.Core.List.{List, [], _∷_, _++_, append-assoc}
 use Prim.Native.Nat.{ℕ, zero, suc, _+_, _-_, _*_, _/_, _%_, _^_, _≤_, _<_}
 use native.Mathlib.Nat.{add-zero, add-sub-cancel-left}
-use native.Mathlib.Numerals.{add-one}
 use native.Mathlib.Omega.{arith}
 use lib.Dec.{eqb}
 use lib.ListN.{length, take, drop, getD, length-drop, take-append-drop}
@@ -24,7 +23,7 @@ use Rattle.tree.specs.Chosen.{allChosen}
 use Rattle.tree.proofs.Promises.{stored-levels, listing-finds, chosen-stored, stored-chosen, outcome-laws}
 use Rattle.tree.specs.Outcomes.{gives, Test, verdict}
 use Rattle.strip.specs.Layout.{maxPins, version, twoAt, fourAt, header, pinsOf, entry, codeAt, lengthAt, partsStart, endAfter, laidOut}
-use Rattle.strip.specs.Image.{Packable, valuesAt, codeFor, partFor, lengthFor, planned, entryFor, joined, stripOf, image}
+use Rattle.strip.specs.Image.{Packable, codeFor, partFor, lengthFor, planned, entryFor, joined, stripOf, image}
 use Rattle.strip.specs.Calls.{listIn}
 use Rattle.strip.specs.Opening.{hasMark, headerTests, codeTests, lengthByEntries, lengthTest, levelTests, levelsIn, opening}
 use Rattle.strip.proofs.Layouts.{laid-at, laid-pins, end-next, end-start, end-mono}
@@ -119,14 +118,12 @@ module _ (s : List ℕ) (levels : Levels) (o : Open s levels) (bytes : Within 8 
       rw (getD-drop (7 + 5 * d) s 0 0, getD-drop (7 + 5 * d) s 1 0, getD-drop (7 + 5 * d) s (1 + 1) 0, getD-drop (7 + 5 * d) s (1 + 2) 0, getD-drop (7 + 5 * d) s (1 + 2 + 1) 0, add-zero (7 + 5 * d), e₁, e₂, e₃, e₄) at
       (entry-again (drop (7 + 5 * d) s) (within-drop 8 (7 + 5 * d) s bytes) (rw length-drop (omega (arith, o .long))))
 
-  module _ (codes-are : (d : ℕ) → d < height n → codeFor values d ≡ codeAt s d) (parts-are : (d : ℕ) → d < height n → partFor values d ≡ partOf levels s (suc d)) where
+  module _ (codes-are : (d : ℕ) → d < height n → codeFor values d ≡ codeAt s d) (parts-are : (d : ℕ) → d < height n → partFor values d ≡ partOf (levels .ends) s d) where
     -- a part has the length that its entry tells
     part-in : (d : ℕ) → d < height n → (partFor values d ≡ take (lengthAt s d) (drop (start d) s)) × (start d + lengthAt s d ≤ length s)
-    unfolding partOf
     part-in d h =
-        let e : suc d - 1 ≡ d = omega arith in
         let k = laid-at n (codeAt s) (lengthAt s) few d h in (
-          parts-are d h ∙ rw (← (o .levels-are), e, k .starts, ← (add-one d), k .ends-at, add-sub-cancel-left (start d) (lengthAt s d)),
+          parts-are d h ∙ rw (← (o .levels-are), k .starts, k .ends-at, add-sub-cancel-left (start d) (lengthAt s d)),
           omega (arith, end-next (partsStart n) (lengthAt s) d, end-mono (partsStart n) (lengthAt s) (suc d) (height n) h, o .whole),
         )
 
@@ -174,7 +171,7 @@ open-image s levels e bytes all chosen =
     let o = open-told s levels e in
     let pins : levels .pins ≡ pinsOf s = rw (← (o .levels-are)) (laid-pins (pinsOf s) (codeAt s) (lengthAt s)) in
     strip-again s levels o bytes (storedValues list) (stored-levels .count list ∙ count ∙ pins)
-    (λ d h. level d (rw pins h) .0 ∙ code-at o d h) (λ d h. ap (λ (c : ℕ). part c (valuesAt (storedValues list) d)) (level d (rw pins h) .0) ∙ level d (rw pins h) .1)
+    (λ d h. level d (rw pins h) .0 ∙ code-at o d h) (λ d h. ap (λ (c : ℕ). part c (levelValues (storedValues list) d)) (level d (rw pins h) .0) ∙ level d (rw pins h) .1)
   where
     list : List ℕ
     list = timesAll levels s
@@ -182,14 +179,12 @@ open-image s levels e bytes all chosen =
     count : length list ≡ levels .pins
     count = listing-finds .count levels s all
 
-    level : (d : ℕ) → d < height (levels .pins) → let vs = valuesAt (storedValues list) d in
-        (chosenFor vs .code ≡ codeOf levels (suc d)) × (part (codeOf levels (suc d)) vs ≡ partOf levels s (suc d))
-    level d h = chosen-stored levels s chosen all (suc d) (omega arith) h
+    level : (d : ℕ) → d < height (levels .pins) → let vs = levelValues (storedValues list) d in
+        (chosenFor vs .code ≡ codeOf levels d) × (part (codeOf levels d) vs ≡ partOf (levels .ends) s d)
+    level d h = chosen-stored levels s chosen all d h
 
-    code-at : Open s levels → (d : ℕ) → d < height (pinsOf s) → codeOf levels (suc d) ≡ codeAt s d
-    code-at o d h =
-        let q : suc d - 1 ≡ d = omega arith in
-        rw (q, ← (o .levels-are)) (laid-at (pinsOf s) (codeAt s) (lengthAt s) (omega (arith, bytes 5, bytes 6)) d h .code-is)
+    code-at : Open s levels → (d : ℕ) → d < height (pinsOf s) → codeOf levels d ≡ codeAt s d
+    code-at o d h = rw (← (o .levels-are)) (laid-at (pinsOf s) (codeAt s) (lengthAt s) (omega (arith, bytes 5, bytes 6)) d h .code-is)
 
 -- the other way round: where the bytes are a list's image, the levels are what pack writes
 pub image-chosen : (s : List ℕ) (levels : Levels) (xs : List ℕ) → Packable xs → opening s ≡ gives levels → image xs ≡ s → allChosen levels s ≡ true
@@ -197,8 +192,8 @@ image-chosen s levels xs p e is =
     let plan : planned (storedValues xs) ≡ levels = outcome-laws .same (sym (list-opens xs p) ∙ rw is e) in
     rw (← plan, ← is) (stored-chosen (planned (storedValues xs)) (image xs) xs (image-stores xs p) codes)
   where
-    codes : (l : ℕ) → 1 ≤ l → l ≤ height (length xs) → codeOf (planned (storedValues xs)) l ≡ chosenFor (levelValues (storedValues xs) l) .code
-    codes (suc d) a b = image-code xs p d b ∙ level-code (storedValues xs) d
+    codes : (d : ℕ) → d < height (length xs) → codeOf (planned (storedValues xs)) d ≡ chosenFor (levelValues (storedValues xs) d) .code
+    codes d h = image-code xs p d h ∙ level-code (storedValues xs) d
 
 -- ---- the list that is read from an open strip
 

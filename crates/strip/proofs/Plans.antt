@@ -3,7 +3,6 @@ use mathlib.Core.Path.{_≡_, refl, sym, ap, _∙_}
 use mathlib.Core.List.{List, _++_}
 use Prim.Native.Nat.{ℕ, zero, suc, _+_, _-_, _*_, _/_, _^_, _≤_, _<_, min}
 use native.Mathlib.Nat.{add-sub-cancel-left}
-use native.Mathlib.Numerals.{add-one}
 use native.Mathlib.Omega.{arith}
 use lib.ListN.{length, getD, length-append}
 use Rattle.codes.specs.Lists.{atFront}
@@ -15,29 +14,26 @@ use Rattle.tree.specs.Shape.{height}
 use Rattle.tree.specs.Levels.{levelValues}
 use Rattle.tree.proofs.Promises.{stored-levels}
 use Rattle.strip.specs.Layout.{header, partsStart, endAfter}
-use Rattle.strip.specs.Image.{valuesAt, codeFor, partFor, lengthFor, planned, entryFor, joined, stripOf}
+use Rattle.strip.specs.Image.{codeFor, partFor, lengthFor, planned, entryFor, joined, stripOf}
 use Rattle.tree.specs.Buffers.{replaced}
 use Rattle.strip.specs.Written.{entryIn}
 use Rattle.strip.proofs.Layouts.{At, laid-end, laid-at, laid-pins}
 use Rattle.tree.proofs.Buffers.{replaced-more, replaced-front}
 use Rattle.strip.proofs.Pieces.{length-joined, joined-same, joined-room}
 
-pub level-next : (values : List ℕ) (d : ℕ) → levelValues values (d + 1) ≡ valuesAt values d
-level-next values d = rw (add-one d)
+pub level-short : (values : List ℕ) (d : ℕ) → length (levelValues values d) ≤ length values
+level-short values d = omega (arith, stored-levels .half values d)
 
-pub level-short : (values : List ℕ) (d : ℕ) → length (valuesAt values d) ≤ length values
-level-short values d = omega (arith, stored-levels .half values (suc d))
-
-pub level-code : (values : List ℕ) (d : ℕ) → codeFor values d ≡ chosen (valuesAt values d) .code
+pub level-code : (values : List ℕ) (d : ℕ) → codeFor values d ≡ chosen (levelValues values d) .code
 unfolding codeFor
 level-code values d = refl
 
 module _ (values : List ℕ) (w : Within 32 values) (d : ℕ) where
   abbrev vs : List ℕ
-  vs = valuesAt values d
+  vs = levelValues values d
 
   pub values-within : Within 32 vs
-  values-within = stored-levels .level-within 32 values (suc d) w
+  values-within = stored-levels .level-within 32 values d w
 
   pub level-holds : Holds (kindOf (codeFor values d)) vs
   unfolding codeFor
@@ -97,7 +93,7 @@ pub record Spot (values : List ℕ) (levels : Levels) (d : ℕ) : Type 0 where
   pub code-is : getD (levels .codes) d 0 ≡ codeFor values d
   pub starts : getD (levels .ends) d 0 ≡ partsStart (length values) + length (joined (partFor values) d)
   pub room : getD (levels .ends) d 0 + lengthFor values d ≤ length (stripOf values)
-  pub part-is : (vs : List ℕ) → vs ≡ levelValues values (d + 1) → part (getD (levels .codes) d 0) vs ≡ partFor values d
+  pub part-is : (vs : List ℕ) → vs ≡ levelValues values d → part (getD (levels .codes) d 0) vs ≡ partFor values d
 
 pub plan-spot : (values : List ℕ) → length values < 2 ^ 16 → (levels : Levels) → levels ≡ planned values → (d : ℕ) → d < height (length values) → Spot values levels d
 unfolding partFor
@@ -108,7 +104,7 @@ plan-spot values few levels e d h =
       code-is = k .code-is;
       starts = starts;
       room = omega (arith, starts, length-strip values, joined-room (partFor values) d (height (length values)) h);
-      part-is = λ vs q. rw (k .code-is, q, level-next values d);
+      part-is = λ vs q. rw (k .code-is, q);
     }
 
 module _ (values : List ℕ) (few : length values < 2 ^ 16) (levels : Levels) (e : levels ≡ planned values) where

@@ -9,20 +9,18 @@ use native.Mathlib.Omega.{arith}
 use lib.Dec.{leb}
 use lib.ListN.{length}
 use borrow.Author.Tests.{lt-leb, le-leb, eq-eqb, ne-eqb}
-use Rattle.codes.specs.Codes.{kindOf, Holds}
-use Rattle.codes.specs.Choice.{size}
+use Rattle.codes.specs.Promises.{Best}
 use Rattle.codes.proofs.Promises.{best-choice}
 use Rattle.tree.specs.declared.nodes.Levels.{Levels}
-use Rattle.tree.specs.Shape.{height}
 use Rattle.tree.specs.Stored.{storedValues}
-use Rattle.tree.specs.Levels.{codeOf, levelValues}
+use Rattle.tree.specs.Levels.{levelValues}
 use Rattle.tree.specs.Listing.{accesses}
 use Rattle.tree.specs.Promises.{Held, Contents}
 use Rattle.tree.specs.declared.walking.Found.{Found}
 use Rattle.tree.specs.Outcomes.{Outcome, gives, refuses, after}
 use Rattle.tree.specs.Times.{timesIn}
 use Rattle.tree.proofs.Promises.{stored-levels, held-reads, access-opens, outcome-laws}
-use Rattle.strip.specs.Image.{Packable, valuesAt, codeFor, planned, image}
+use Rattle.strip.specs.Image.{Packable, codeFor, planned, image}
 use Rattle.strip.specs.Opening.{opening}
 use Rattle.strip.specs.Calls.{accessIn, accessOf, searchOf, upToOf, repeatFrom, repeatOf, stepIn, stepOf}
 use Rattle.strip.specs.Promises.{RoomEnough, Opens, ImageOpens, ReadsBack, RoundTrip, RepeatLater, TimeOpens}
@@ -45,22 +43,17 @@ module _ (xs : List ℕ) (p : Packable xs) where
   image-opened : Opens xs (planned (storedValues xs))
   unfolding codeFor
   image-opened = record {
-    bits = record { opened = opened; stores = held .stores; fewest = fewest; on-tie = on-tie };
+    bits = record {
+      opened = opened;
+      stores = held .stores;
+      fewest = λ d code b h. rw (image-code xs p d b) (omega (arith, best d .fewest code h, best d .its-size));
+      on-tie = λ d code b h e. rw (image-code xs p d b) (best d .on-tie code h (rw (image-code xs p d b) at e ∙ sym (best d .its-size)));
+    };
     nodes = reads .path-nodes;
   }
     where
-      fewest : (l code : ℕ) → 1 ≤ l → l ≤ height (length xs) → Holds (kindOf code) (levelValues (storedValues xs) l)
-          → size (codeOf (planned (storedValues xs)) l) (levelValues (storedValues xs) l) ≤ size code (levelValues (storedValues xs) l)
-      fewest (suc d) code a b h =
-          let best = best-choice (valuesAt (storedValues xs) d) (values-within (storedValues xs) (within xs p) d) in
-          rw (image-code xs p d b) (omega (arith, best .fewest code h, best .its-size))
-
-      on-tie : (l code : ℕ) → 1 ≤ l → l ≤ height (length xs) → Holds (kindOf code) (levelValues (storedValues xs) l)
-          → size code (levelValues (storedValues xs) l) ≡ size (codeOf (planned (storedValues xs)) l) (levelValues (storedValues xs) l)
-          → codeOf (planned (storedValues xs)) l ≤ code
-      on-tie (suc d) code a b h e =
-          let best = best-choice (valuesAt (storedValues xs) d) (values-within (storedValues xs) (within xs p) d) in
-          rw (image-code xs p d b) (best .on-tie code h (rw (image-code xs p d b) at e ∙ sym (best .its-size)))
+      best : (d : ℕ) → Best (levelValues (storedValues xs) d)
+      best d = best-choice (levelValues (storedValues xs) d) (values-within (storedValues xs) (within xs p) d)
 
   pins : planned (storedValues xs) .pins ≡ length xs
   pins = held .stores .pins-are

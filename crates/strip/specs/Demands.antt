@@ -41,10 +41,10 @@ UnpacksTo s xs out = (unpackOf s (length out) ≡ gives (length xs)) × (unpackO
 pub record FewestBits (xs s : List ℕ) (levels : Levels) : Type 0 where
   pub opened : opening s ≡ gives levels
   pub stores : Stores levels s xs
-  pub fewest : (l code : ℕ) → 1 ≤ l → l ≤ height (length xs) → Holds (kindOf code) (levelValues (storedValues xs) l)
-      → size (codeOf levels l) (levelValues (storedValues xs) l) ≤ size code (levelValues (storedValues xs) l)
-  pub on-tie : (l code : ℕ) → 1 ≤ l → l ≤ height (length xs) → Holds (kindOf code) (levelValues (storedValues xs) l)
-      → size code (levelValues (storedValues xs) l) ≡ size (codeOf levels l) (levelValues (storedValues xs) l) → codeOf levels l ≤ code
+  pub fewest : (d code : ℕ) → d < height (length xs) → Holds (kindOf code) (levelValues (storedValues xs) d)
+      → size (codeOf levels d) (levelValues (storedValues xs) d) ≤ size code (levelValues (storedValues xs) d)
+  pub on-tie : (d code : ℕ) → d < height (length xs) → Holds (kindOf code) (levelValues (storedValues xs) d)
+      → size code (levelValues (storedValues xs) d) ≡ size (codeOf levels d) (levelValues (storedValues xs) d) → codeOf levels d ≤ code
 
 -- a strip is accepted when some list of 32-bit times packs to it, in some output
 abbrev pub Accepted : List ℕ → Type 0

@@ -19,16 +19,12 @@ pub record Packable (xs : List ℕ) : Type 0 where
   pub times : Within 32 xs
   pub in-order : T (ordered xs)
 
--- of the values in node order, those of the level below d others
-abbrev pub valuesAt : List ℕ → ℕ → List ℕ
-valuesAt values d = levelValues values (suc d)
-
--- the code with fewest bits for them, and their part in it
+-- of the values in node order, the code with fewest bits for those of the level below d others, and their part in it
 unfoldable pub codeFor : List ℕ → ℕ → ℕ
-codeFor values d = chosen (valuesAt values d) .code
+codeFor values d = chosen (levelValues values d) .code
 
 unfoldable pub partFor : List ℕ → ℕ → List ℕ
-partFor values d = part (codeFor values d) (valuesAt values d)
+partFor values d = part (codeFor values d) (levelValues values d)
 
 abbrev pub lengthFor : List ℕ → ℕ → ℕ
 lengthFor values d = length (partFor values d)

@@ -15,7 +15,7 @@ use Rattle.codes.specs.Fetch.{fixedAt, fetchLayers, chunkedAt, fetched}
 use Rattle.tree.specs.Shape.{height, rootPlace, childOf, stretchIn, stretch, rank}
 use Rattle.tree.specs.Lists.{ordered}
 use Rattle.tree.specs.Stored.{timeOf, timeAbove, stored, storedFrom}
-use Rattle.tree.specs.Levels.{partOf, fetchedAt}
+use Rattle.tree.specs.Levels.{fetchedAt}
 use Rattle.tree.specs.Times.{nodeTimeIn, nodeTime}
 use Rattle.tree.specs.declared.walking.Found.{Found}
 use Rattle.tree.specs.Outcomes.{Outcome, gives, refuses, test, verdict}
@@ -177,7 +177,7 @@ all (c ∷ cs) = passes c && all cs
 
 pub marked-pass : all marked ≡ true
 unfolding bits number sum fixed numbers padded kindOf rest layers kindBits widthIn widest bestChunked chosen fixedAt fetchLayers chunkedAt fetched height
-    rootPlace childOf stretchIn stretch rank ordered timeOf timeAbove stored storedFrom partOf fetchedAt nodeTimeIn nodeTime walkIn walk met toward lastOf
+    rootPlace childOf stretchIn stretch rank ordered timeOf timeAbove stored storedFrom fetchedAt nodeTimeIn nodeTime walkIn walk met toward lastOf
     accessAnswer remember targetFrom dropped legsFrom opened positions firstLower test verdict endAfter filled laidOut codeFor partFor joined stripOf codeTests opening packOf packOutput
     accessOf searchOf upToOf sweepOf sweepOutput timesFrom positionsTests listIn checkOf plainList unpackOf unpackOutput repeatFrom repeatOf stepOf nextOf
 marked-pass = refl

@@ -26,7 +26,7 @@ fn plan(values: &[u32]) -> Levels
     let mut end = levels.ends[0];
     let mut d: usize = 0;
     while d < h {
-        let choice = codes::choose(tree::level_values(values, d + 1));
+        let choice = codes::choose(tree::level_values(values, d));
         end += (choice.size + 7) / 8;
         levels.codes[d] = choice.code;
         levels.ends[d + 1] = end;

@@ -65,12 +65,7 @@ fn put_parts(out: &mut [u8], work: &mut [u32], values: &[u32], levels: Levels)
     while d < h {
         let start = levels.ends[d];
         let code = levels.codes[d];
-        codes::encode(
-            &mut out[start..],
-            work,
-            tree::level_values(values, d + 1),
-            code,
-        );
+        codes::encode(&mut out[start..], work, tree::level_values(values, d), code);
         d += 1;
     }
 }

@@ -8,7 +8,7 @@ use native.Mathlib.Nat.{zero-add, suc-add, pow-succ'}
 use native.Mathlib.Numerals.{add-one}
 use native.Mathlib.Decide.{decLt, ℕ-discrete}
 use native.Mathlib.Omega.{arith}
-use lib.ListN.{length, take, drop, getD, length-append, length-drop, drop-of-length-le}
+use lib.ListN.{length, take, drop, length-append, length-drop, drop-of-length-le}
 use lib.Seq.{length-take-le, take-all, take-at, drop-at, take-append-le, drop-append-le}
 use lib.Pow.{pow-pos}
 use borrow.Rule.Slice.PartMut.{putMid, post-is}
@@ -16,7 +16,7 @@ use Rattle.codes.specs.Decode.{Decoded, all, undecoded, decoded, isDecoded, dec
 use Rattle.codes.proofs.Promises.{decode-fetches}
 use Rattle.tree.specs.declared.nodes.Levels.{Levels}
 use Rattle.tree.specs.Shape.{height}
-use Rattle.tree.specs.Levels.{firstOf, countOf, codeOf, partOf, partBelow, levelValues}
+use Rattle.tree.specs.Levels.{countOf, codeOf, partOf, levelValues}
 use Rattle.tree.specs.DecodedLevels.{decodedAt, joined, decodedTo, decodedLevels}
 use Rattle.tree.specs.Merged.{KnownValues}
 use Rattle.tree.proofs.Heights.{height-bound, level-starts}
@@ -51,11 +51,6 @@ module _ (levels : Levels) (s : List ℕ) where
   abbrev n : ℕ
   n = levels .pins
 
-  -- the level below d others, by the numbers that the code has
-  pub decoded-level : (d : ℕ) → decodedAt levels s (suc d) ≡ decoded (getD (levels .codes) d 0) (min (n + 1 - 2 ^ d) (2 ^ d)) (partBelow (levels .ends) s d)
-  unfolding partOf
-  decoded-level d = let e : suc d - 1 ≡ d = omega arith in rw (count-is n d, e, add-one d)
-
   -- ---- one level more
 
   undecoded-stays : (k m : ℕ) → decodedTo levels s k ≡ undecoded → decodedTo levels s (m + k) ≡ undecoded
@@ -63,7 +58,7 @@ module _ (levels : Levels) (s : List ℕ) where
   undecoded-stays k zero e = rw (zero-add k) e
   undecoded-stays k (suc m) e = rw (suc-add m k, undecoded-stays k m e)
 
-  module _ (d count : ℕ) (us : List ℕ) (x : Decoded) (before : decodedTo levels s d ≡ all us) (is : decodedAt levels s (suc d) ≡ x) where
+  module _ (d count : ℕ) (us : List ℕ) (x : Decoded) (before : decodedTo levels s d ≡ all us) (is : decodedAt levels s d ≡ x) where
     pub decoded-next : isDecoded x ≡ true → decodedTo levels s (d + 1) ≡ all (us ++ decodedOr0 count x)
     unfolding decodedTo
     decoded-next e = rw (add-one d, before, is) (ap (joined (all us)) (all-of count x e))
@@ -81,20 +76,20 @@ module _ (levels : Levels) (s : List ℕ) where
     front : List ℕ
     last : List ℕ
     before : decodedTo levels s k ≡ all front
-    level : decodedAt levels s (suc k) ≡ all last
+    level : decodedAt levels s k ≡ all last
     are : vs ≡ front ++ last
 
   joined-told : (k : ℕ) (vs : List ℕ) → decodedTo levels s (suc k) ≡ all vs → Joined k vs
   unfolding decodedTo
-  joined-told k vs e = go (decodedTo levels s k) (decodedAt levels s (suc k)) refl refl e
+  joined-told k vs e = go (decodedTo levels s k) (decodedAt levels s k) refl refl e
     where
-      go : (x y : Decoded) → decodedTo levels s k ≡ x → decodedAt levels s (suc k) ≡ y → joined x y ≡ all vs → Joined k vs
+      go : (x y : Decoded) → decodedTo levels s k ≡ x → decodedAt levels s k ≡ y → joined x y ≡ all vs → Joined k vs
       go (all us) (all ws) p q r = record { front = us; last = ws; before = p; level = q; are = cc }
       go (all us) undecoded p q r = absurd (let z : _≡_ {A = ℕ} 0 1 = cc in omega arith)
       go undecoded y p q r = absurd (let z : _≡_ {A = ℕ} 0 1 = cc in omega arith)
 
-  decoded-length : (k : ℕ) (ws : List ℕ) → decodedAt levels s (suc k) ≡ all ws → length ws ≡ countOf n (suc k)
-  decoded-length k ws e = decode-fetches (codeOf levels (suc k)) (countOf n (suc k)) (partOf levels s (suc k)) ws e .0
+  decoded-length : (k : ℕ) (ws : List ℕ) → decodedAt levels s k ≡ all ws → length ws ≡ countOf n k
+  decoded-length k ws e = decode-fetches (codeOf levels k) (countOf n k) (partOf (levels .ends) s k) ws e .0
 
   both : (m p : ℕ) → 1 ≤ p → p ≤ m → min m (p - 1) + min (m + 1 - p) p ≡ min m (2 * p - 1)
   both m p h k = omega arith
@@ -107,28 +102,26 @@ module _ (levels : Levels) (s : List ℕ) where
       let j = joined-told k vs e in
       let f = decoded-count k (j .front) (omega arith) (j .before) in
       let l = decoded-length k (j .last) (j .level) in
-      let p : suc k - 1 ≡ k = omega arith in
-      rw (j .are, length-append (j .front) (j .last), f, l, count-is n k, pow-succ' 2 k) (both n (2 ^ k) (pow-pos k) (rw p at (level-starts n (suc k) (omega arith) h)))
+      rw (j .are, length-append (j .front) (j .last), f, l, count-is n k, pow-succ' 2 k) (both n (2 ^ k) (pow-pos k) (level-starts n k h))
 
-  decoded-each : (k : ℕ) (vs : List ℕ) → k ≤ height n → decodedTo levels s k ≡ all vs → (l : ℕ) → 1 ≤ l → l ≤ k
-      → decodedAt levels s l ≡ all (take (countOf n l) (drop (firstOf l - 1) vs))
-  decoded-each zero vs h e l one few = absurd (omega arith)
-  decoded-each (suc k) vs h e l one few =
+  decoded-each : (k : ℕ) (vs : List ℕ) → k ≤ height n → decodedTo levels s k ≡ all vs → (d : ℕ) → d < k
+      → decodedAt levels s d ≡ all (take (countOf n d) (drop (2 ^ d - 1) vs))
+  decoded-each zero vs h e d few = absurd (omega arith)
+  decoded-each (suc k) vs h e d few =
       let j = joined-told k vs e in
       let f = decoded-count k (j .front) (omega arith) (j .before) in
       let m = decoded-length k (j .last) (j .level) in
-      elim (ℕ-discrete l (suc k)) [
+      elim (ℕ-discrete d k) [
         | yes z ↦
-            let p : suc k - 1 ≡ k = omega arith in
-            let low : 2 ^ k ≤ n = rw p at (level-starts n (suc k) (omega arith) h) in
-            let len : length (j .front) ≡ firstOf (suc k) - 1 = rw p (omega arith) in
-            rw z (j .level ∙ ap all (sym (ap (λ (xs : List ℕ). take (countOf n (suc k)) (drop (firstOf (suc k) - 1) xs)) (j .are)
-            ∙ ap (take (countOf n (suc k))) (drop-at (j .front) (j .last) (firstOf (suc k) - 1) len) ∙ take-all (countOf n (suc k)) (j .last) (omega arith))))
+            let low = level-starts n k h in
+            let len : length (j .front) ≡ 2 ^ k - 1 = omega arith in
+            rw z (j .level ∙ ap all (sym (ap (λ (xs : List ℕ). take (countOf n k) (drop (2 ^ k - 1) xs)) (j .are)
+            ∙ ap (take (countOf n k)) (drop-at (j .front) (j .last) (2 ^ k - 1) len) ∙ take-all (countOf n k) (j .last) (omega arith))))
         | no z ↦
-            let at-most : l ≤ k = omega arith in
-            let in-front : firstOf l - 1 + countOf n l ≤ length (j .front) = rw f (level-inside n l k one at-most (omega arith)) in
-            decoded-each k (j .front) (omega arith) (j .before) l one at-most
-            ∙ ap all (sym (ap (λ (xs : List ℕ). take (countOf n l) (drop (firstOf l - 1) xs)) (j .are) ∙ part-before (firstOf l - 1) (countOf n l) (j .front) (j .last) in-front))
+            let above : d < k = omega arith in
+            let in-front : 2 ^ d - 1 + countOf n d ≤ length (j .front) = rw f (level-inside n d k above (omega arith)) in
+            decoded-each k (j .front) (omega arith) (j .before) d above
+            ∙ ap all (sym (ap (λ (xs : List ℕ). take (countOf n d) (drop (2 ^ d - 1) xs)) (j .are) ∙ part-before (2 ^ d - 1) (countOf n d) (j .front) (j .last) in-front))
       ]
 
   -- ---- all levels
@@ -137,17 +130,14 @@ module _ (levels : Levels) (s : List ℕ) where
     pub values-count : length values ≡ n
     values-count = decoded-count (height n) values (omega arith) e ∙ omega (arith, height-bound n)
 
-    pub decoded-values : (l : ℕ) → 1 ≤ l → l ≤ height n → decodedAt levels s l ≡ all (levelValues values l)
-    decoded-values l one few = rw values-count (decoded-each (height n) values (omega arith) e l one few)
+    pub decoded-values : (d : ℕ) → d < height n → decodedAt levels s d ≡ all (levelValues values d)
+    decoded-values d few = rw values-count (decoded-each (height n) values (omega arith) e d few)
 
-    -- by the numbers that the code has
-    pub level-decodes : (d : ℕ) → d < height n → let vs = levelValues values (suc d) in
-        decoded (getD (levels .codes) d 0) (length vs) (partBelow (levels .ends) s d) ≡ all vs
+    -- by their number, as the code has it
+    pub level-decodes : (d : ℕ) → d < height n → let vs = levelValues values d in decoded (codeOf levels d) (length vs) (partOf (levels .ends) s d) ≡ all vs
     level-decodes d h =
-        let vs = levelValues values (suc d) in
-        let own = decoded-values (suc d) (omega arith) h in
-        ap (λ (m : ℕ). decoded (getD (levels .codes) d 0) m (partBelow (levels .ends) s d))
-        (decoded-length d vs own ∙ count-is n d) ∙ sym (decoded-level d) ∙ own
+        let own = decoded-values d h in
+        ap (λ (m : ℕ). decoded (codeOf levels d) m (partOf (levels .ends) s d)) (decoded-length d (levelValues values d) own) ∙ own
 
     pub known-values : KnownValues levels s values
     known-values = known-from levels s values values-count decoded-values

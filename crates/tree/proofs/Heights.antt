@@ -35,9 +35,9 @@ height-mono m n h = height-le m (height n) (omega (arith, height-bound n))
 pub height-above : (n k : ℕ) → 2 ^ k ≤ n → k < height n
 height-above n k h = lt-of-not-le (λ l. omega (arith, pow-mono l, height-bound n))
 
--- the first node of level l is one of the nodes
-pub level-starts : (n l : ℕ) → 1 ≤ l → l ≤ height n → 2 ^ (l - 1) ≤ n
-level-starts n l h k = elim (decLt n (2 ^ (l - 1))) [ yes lt ↦ absurd (omega (arith, height-le n (l - 1) lt)) | no le ↦ omega arith ]
+-- the first node of the level below d others is one of the nodes
+pub level-starts : (n d : ℕ) → d < height n → 2 ^ d ≤ n
+level-starts n d h = elim (decLt n (2 ^ d)) [ yes lt ↦ absurd (omega (arith, height-le n d lt)) | no le ↦ omega arith ]
 
 -- no other number is such a least one
 pub height-unique : (n m : ℕ) → n < 2 ^ m → 2 ^ m ≤ 2 * n + 1 → height n ≡ m
@@ -58,7 +58,7 @@ pub record Digits (n : ℕ) : Type 0 where
 pub digits : (n : ℕ) → 1 ≤ n → Digits n
 digits n h =
     let e : height n ≡ suc (height n - 1) = omega (arith, height-above n 0 h) in
-    record { top = height n - 1; is = e; least = level-starts n (height n) (omega (arith, height-above n 0 h)) (omega arith); below = rw e at (height-bound n) }
+    record { top = height n - 1; is = e; least = level-starts n (height n - 1) (omega (arith, height-above n 0 h)); below = rw e at (height-bound n) }
 
 pub height-step : (n : ℕ) → 1 ≤ n → height n ≡ suc (height (n / 2))
 height-step n h = height-unique n (suc (height (n / 2))) (omega (arith, height-bound (n / 2))) (low (decLt n 2))

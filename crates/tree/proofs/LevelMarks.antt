@@ -10,7 +10,7 @@ use lib.Seq.{length-take-le, take-at, drop-at, drop-drop, take-append-le, drop-a
 use borrow.Rule.Slice.PartMut.{midOf, putMid, postOf, same-len-mid, mid-len, drop-put}
 use Rattle.codes.specs.Marks.{Marks}
 use Rattle.codes.proofs.Promises.{zero-marks}
-use Rattle.tree.specs.Levels.{partBelow}
+use Rattle.tree.specs.Levels.{partOf}
 use Rattle.tree.specs.LevelMarks.{marksOf, LevelMarks}
 
 -- ---- entries in the place of the k from a on
@@ -48,11 +48,11 @@ module _ {ends s ms : List ℕ} (old : LevelMarks ends s ms) (d : ℕ) (h : d < 
   abbrev k : ℕ
   k = length ms / 16
 
-  pub marks-lent : Marks (partBelow ends s d) (midOf (d * k) (d * k + k - d * k) ms)
+  pub marks-lent : Marks (partOf ends s d) (midOf (d * k) (d * k + k - d * k) ms)
   marks-lent = rw (size d k) (old .marks d h)
 
   -- back and still true, with the others as they were
-  pub marks-back : (ys : List ℕ) → length ys ≡ length (midOf (d * k) (d * k + k - d * k) ms) → Marks (partBelow ends s d) ys
+  pub marks-back : (ys : List ℕ) → length ys ≡ length (midOf (d * k) (d * k + k - d * k) ms) → Marks (partOf ends s d) ys
       → LevelMarks ends s (putMid (d * k) (d * k + k - d * k) ms ys)
   marks-back ys l new = rw (size d k) (record { marks = λ e b. rw whole (go e b) })
     where
@@ -65,7 +65,7 @@ module _ {ends s ms : List ℕ} (old : LevelMarks ends s ms) (d : ℕ) (h : d < 
       whole : length (putMid (d * k) k ms ys) ≡ length ms
       whole = same-len-mid (d * k) k ms ys (rw (size d k) at l)
 
-      go : (e : ℕ) → e < 16 → Marks (partBelow ends s e) (take k (drop (e * k) (putMid (d * k) k ms ys)))
+      go : (e : ℕ) → e < 16 → Marks (partOf ends s e) (take k (drop (e * k) (putMid (d * k) k ms ys)))
       go e b = elim (decLt e d) [
         | yes y ↦ rw (kept-before (d * k) k ms ys room many (e * k) (omega (arith, mul-le-mul-right k y))) (old .marks e b)
         | no n ↦ elim (decLt d e) [
@@ -78,7 +78,7 @@ module _ {ends s ms : List ℕ} (old : LevelMarks ends s ms) (d : ℕ) (h : d < 
 
 -- any number of them are marks
 pub marks-zero : (ends s : List ℕ) (n : ℕ) → LevelMarks ends s (replicate n 0)
-marks-zero ends s n = record { marks = λ d h. zero-marks (partBelow ends s d) (marksOf (replicate n 0) d) (zero d) }
+marks-zero ends s n = record { marks = λ d h. zero-marks (partOf ends s d) (marksOf (replicate n 0) d) (zero d) }
   where
     zeros : (j : ℕ) → getD (replicate {A = ℕ} n 0) j 0 ≡ 0
     zeros j = elim (decLt j n) [

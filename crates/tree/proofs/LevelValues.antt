@@ -17,10 +17,10 @@ use Rattle.codes.proofs.Promises.{decode-fetches, decode-back}
 use Rattle.tree.specs.declared.nodes.Levels.{Levels}
 use Rattle.tree.specs.Shape.{height, rank}
 use Rattle.tree.specs.Stored.{timeOf, timeAbove, difference, stored, storedFrom, storedValues}
-use Rattle.tree.specs.Levels.{firstOf, countOf, codeOf, partOf, levelValues, fetchedAt, Stores}
+use Rattle.tree.specs.Levels.{countOf, levelOf, codeOf, partOf, levelValues, fetchedAt, Stores}
 use Rattle.tree.specs.DecodedLevels.{decodedAt}
 use Rattle.tree.specs.Merged.{KnownValues}
-use Rattle.tree.proofs.Heights.{digits, height-mono, height-above, level-starts}
+use Rattle.tree.proofs.Heights.{digits, height-mono, level-starts}
 use Rattle.tree.proofs.NodeFetches.{count-is}
 
 length-from : (xs : List ℕ) (k v : ℕ) → length (storedFrom xs k v) ≡ k
@@ -63,73 +63,69 @@ stored-within w xs h j = elim (decLt j (length xs)) [
 
 -- ---- a level's
 
-pub level-at : (values : List ℕ) (l j : ℕ) → j < countOf (length values) l → getD (levelValues values l) j 0 ≡ getD values (firstOf l - 1 + j) 0
-level-at values l j h = getD-take (countOf (length values) l) (drop (firstOf l - 1) values) j 0 h ∙ getD-drop (firstOf l - 1) values j 0
+pub level-at : (values : List ℕ) (d j : ℕ) → j < countOf (length values) d → getD (levelValues values d) j 0 ≡ getD values (2 ^ d - 1 + j) 0
+level-at values d j h = getD-take (countOf (length values) d) (drop (2 ^ d - 1) values) j 0 h ∙ getD-drop (2 ^ d - 1) values j 0
 
-level-few : (values : List ℕ) (l : ℕ) → length (levelValues values l) ≤ countOf (length values) l
-level-few values l = rw length-take (omega arith)
+level-few : (values : List ℕ) (d : ℕ) → length (levelValues values d) ≤ countOf (length values) d
+level-few values d = rw length-take (omega arith)
 
-pub level-within : (w : ℕ) (values : List ℕ) (l : ℕ) → Within w values → Within w (levelValues values l)
-level-within w values l h i = elim (decLt i (countOf (length values) l)) [
-  | yes k ↦ rw (level-at values l i k) (h (firstOf l - 1 + i))
-  | no n ↦ rw (List·getD-eq-default (levelValues values l) 0 {n = i} (omega (arith, level-few values l))) (pow-pos w)
+pub level-within : (w : ℕ) (values : List ℕ) (d : ℕ) → Within w values → Within w (levelValues values d)
+level-within w values d h i = elim (decLt i (countOf (length values) d)) [
+  | yes k ↦ rw (level-at values d i k) (h (2 ^ d - 1 + i))
+  | no n ↦ rw (List·getD-eq-default (levelValues values d) 0 {n = i} (omega (arith, level-few values d))) (pow-pos w)
 ]
 
-pub level-half : (values : List ℕ) (l : ℕ) → 2 * length (levelValues values l) ≤ length values + 1
-level-half values zero = omega (arith, level-few values 0)
-level-half values (suc d) = omega (arith, level-few values (suc d), count-is (length values) d)
+pub level-half : (values : List ℕ) (d : ℕ) → 2 * length (levelValues values d) ≤ length values + 1
+level-half values d = omega (arith, level-few values d, count-is (length values) d)
 
-pub level-above : (values : List ℕ) (d : ℕ) → min (length values) (2 ^ d - 1) + length (levelValues values (suc d)) ≤ min (length values) (2 ^ suc d - 1)
+pub level-above : (values : List ℕ) (d : ℕ) → min (length values) (2 ^ d - 1) + length (levelValues values d) ≤ min (length values) (2 ^ suc d - 1)
 level-above values d =
-    go (length values) (2 ^ d) (2 ^ suc d) (length (levelValues values (suc d))) (pow-pos d) (pow-succ' 2 d) (omega (arith, level-few values (suc d), count-is (length values) d))
+    go (length values) (2 ^ d) (2 ^ suc d) (length (levelValues values d)) (pow-pos d) (pow-succ' 2 d) (omega (arith, level-few values d, count-is (length values) d))
   where
     go : (n p q m : ℕ) → 1 ≤ p → q ≡ 2 * p → m ≤ min (n + 1 - p) p → min n (p - 1) + m ≤ min n (q - 1)
     go n p q m h e l = omega arith
 
 -- a level among the first k of the tree has all its nodes among theirs, and a value for each
-pub level-inside : (n l k : ℕ) → 1 ≤ l → l ≤ k → k ≤ height n → firstOf l - 1 + countOf n l ≤ min n (2 ^ k - 1)
-level-inside n l k one few high =
-    let lower : l - 1 ≤ l = omega arith in
-    go n (2 ^ (l - 1)) (2 ^ l) (2 ^ k) (level-starts n l one (omega arith)) (pow-pos (l - 1)) (pow-mono lower) (pow-mono few)
+pub level-inside : (n d k : ℕ) → d < k → k ≤ height n → 2 ^ d - 1 + countOf n d ≤ min n (2 ^ k - 1)
+level-inside n d k few high = go n (2 ^ d) (2 ^ suc d) (2 ^ k) (level-starts n d (omega arith)) (pow-pos d) (pow-succ' 2 d) (pow-mono few)
   where
-    go : (n p q r : ℕ) → p ≤ n → 1 ≤ p → p ≤ q → q ≤ r → p - 1 + (suc (min n (q - 1)) - p) ≤ min n (r - 1)
+    go : (n p q r : ℕ) → p ≤ n → 1 ≤ p → q ≡ 2 * p → q ≤ r → p - 1 + (suc (min n (q - 1)) - p) ≤ min n (r - 1)
     go n p q r a b c d = omega arith
 
-pub level-length : (xs : List ℕ) (l : ℕ) → 1 ≤ l → l ≤ height (length xs) → length (levelValues (storedValues xs) l) ≡ countOf (length xs) l
-level-length xs l one few = rw (length-take, length-drop, length-stored xs) (omega (arith, level-inside (length xs) l l one (le-refl l) few))
+pub level-length : (xs : List ℕ) (d : ℕ) → d < height (length xs) → length (levelValues (storedValues xs) d) ≡ countOf (length xs) d
+level-length xs d few = rw (length-take, length-drop, length-stored xs) (omega (arith, level-inside (length xs) d (suc d) (le-refl (suc d)) few))
 
 -- a node stands on its level, and the level in the tree
-on-level : (n v : ℕ) → 1 ≤ v → v ≤ n → let l = height v in (l ≤ height n) × (firstOf l ≤ v) × (v - firstOf l < countOf n l)
+on-level : (n v : ℕ) → 1 ≤ v → v ≤ n → let d = levelOf v in (d < height n) × (2 ^ d ≤ v) × (v - 2 ^ d < countOf n d)
 on-level n v h k =
-    let d = digits v h in
-    let e : suc (d .top) - 1 ≡ d .top = omega arith in
-    let m : height v ≤ height n = height-mono v n k in
-    rw (d .is, e) (rw (d .is) at m, d .least, omega (arith, d .least, d .below))
+    let t = digits v h in
+    let e : levelOf v ≡ t .top = omega (arith, t .is) in
+    rw e (omega (arith, t .is, height-mono v n k), t .least, omega (arith, t .least, t .below))
 
 -- where each level is decoded to its values, these are what is fetched for the nodes
 pub known-from : (levels : Levels) (s values : List ℕ) → length values ≡ levels .pins
-    → ((l : ℕ) → 1 ≤ l → l ≤ height (levels .pins) → decodedAt levels s l ≡ all (levelValues values l)) → KnownValues levels s values
+    → ((d : ℕ) → d < height (levels .pins) → decodedAt levels s d ≡ all (levelValues values d)) → KnownValues levels s values
 unfolding fetchedAt
 known-from levels s values e each v h k =
-    let l = height v in
+    let d = levelOf v in
     let on = on-level (levels .pins) v h (omega arith) in
-    let j = v - firstOf l in
-    let i : firstOf l - 1 + j ≡ v - 1 = omega (arith, on .1, pow-pos (l - 1)) in
-    decode-fetches (codeOf levels l) (countOf (levels .pins) l) (partOf levels s l) (levelValues values l) (each l (height-above v 0 h) (on .0)) .1 j (on .2)
-    ∙ ap value (level-at values l j (rw e (on .2)) ∙ ap (λ (m : ℕ). getD values m 0) i)
+    let j = v - 2 ^ d in
+    let i : 2 ^ d - 1 + j ≡ v - 1 = omega (arith, on .1, pow-pos d) in
+    decode-fetches (codeOf levels d) (countOf (levels .pins) d) (partOf (levels .ends) s d) (levelValues values d) (each d (on .0)) .1 j (on .2)
+    ∙ ap value (level-at values d j (rw e (on .2)) ∙ ap (λ (m : ℕ). getD values m 0) i)
 
 -- ---- levels that hold what a list's tree stores
 
-pub decoded-back : {levels : Levels} {s xs : List ℕ} → Stores levels s xs → (l : ℕ) → 1 ≤ l → l ≤ height (length xs)
-    → decodedAt levels s l ≡ all (levelValues (storedValues xs) l)
-decoded-back {levels} {s} {xs} w l one few =
-    ap (λ (n : ℕ). decoded (codeOf levels l) (countOf n l) (partOf levels s l)) (w .pins-are)
-    ∙ ap (λ (n : ℕ). decoded (codeOf levels l) n (partOf levels s l)) (sym (level-length xs l one few))
-    ∙ ap (decoded (codeOf levels l) (length (levelValues (storedValues xs) l))) (w .parts-are l one few)
-    ∙ decode-back (codeOf levels l) (levelValues (storedValues xs) l) (w .holds l one few)
+pub decoded-back : {levels : Levels} {s xs : List ℕ} → Stores levels s xs → (d : ℕ) → d < height (length xs)
+    → decodedAt levels s d ≡ all (levelValues (storedValues xs) d)
+decoded-back {levels} {s} {xs} w d few =
+    ap (λ (n : ℕ). decoded (codeOf levels d) (countOf n d) (partOf (levels .ends) s d)) (w .pins-are)
+    ∙ ap (λ (n : ℕ). decoded (codeOf levels d) n (partOf (levels .ends) s d)) (sym (level-length xs d few))
+    ∙ ap (decoded (codeOf levels d) (length (levelValues (storedValues xs) d))) (w .parts-are d few)
+    ∙ decode-back (codeOf levels d) (levelValues (storedValues xs) d) (w .holds d few)
 
 pub fetched-stored : (levels : Levels) (s xs : List ℕ) → Stores levels s xs → (v : ℕ) → 1 ≤ v → v ≤ length xs → fetchedAt levels s v ≡ value (stored xs v)
 fetched-stored levels s xs w v h k =
     let last : suc (v - 1) ≡ v = omega arith in
-    known-from levels s (storedValues xs) (length-stored xs ∙ sym (w .pins-are)) (λ l a b. decoded-back w l a (rw (w .pins-are) at b)) v h (rw (length-stored xs) k)
+    known-from levels s (storedValues xs) (length-stored xs ∙ sym (w .pins-are)) (λ d b. decoded-back w d (rw (w .pins-are) at b)) v h (rw (length-stored xs) k)
     ∙ ap value (getD-stored xs (v - 1) (omega arith) ∙ ap (stored xs) last)

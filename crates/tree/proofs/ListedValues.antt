@@ -20,7 +20,7 @@ use Rattle.codes.proofs.Promises.{decode-fetches, chosen-parts}
 use Rattle.tree.specs.declared.nodes.Levels.{Levels}
 use Rattle.tree.specs.Shape.{height, rank}
 use Rattle.tree.specs.Stored.{timeOf, timeAbove, difference, stored, storedValues}
-use Rattle.tree.specs.Levels.{firstOf, countOf, codeOf, partOf, levelValues, fetchedAt}
+use Rattle.tree.specs.Levels.{countOf, codeOf, partOf, levelValues, fetchedAt}
 use Rattle.tree.specs.declared.walking.Found.{Found}
 use Rattle.tree.specs.Outcomes.{Outcome, gives, refuses, follow, after, known, verdict}
 use Rattle.tree.specs.Times.{under, timesIn}
@@ -29,7 +29,8 @@ use Rattle.tree.specs.Listing.{accesses, timesFrom, stopFrom, timesAll, 
 use Rattle.tree.specs.DecodedLevels.{decodedAt}
 use Rattle.tree.specs.Chosen.{chosenBy, levelChosen}
 use Rattle.tree.specs.Promises.{ChosenStored}
-use Rattle.tree.proofs.Heights.{height-is, height-above}
+use Rattle.tree.proofs.Heights.{height-above}
+use Rattle.tree.proofs.NodeFetches.{count-is, level-is}
 use Rattle.tree.proofs.NodeTimes.{time-step}
 use Rattle.tree.proofs.Ranks.{rank-lt}
 use Rattle.tree.proofs.Outcomes.{gives-refuses}
@@ -117,45 +118,42 @@ module _ (levels : Levels) (s : List ℕ) (whole : stopAll levels s ≡ gives tt
 
   -- ---- the levels
 
-  module _ (l : ℕ) (one : 1 ≤ l) (few : l ≤ height (levels .pins)) where
+  module _ (d : ℕ) (few : d < height (levels .pins)) where
     abbrev stores : List ℕ
-    stores = levelValues (storedValues list) l
+    stores = levelValues (storedValues list) d
 
-    count-in : firstOf l - 1 + countOf (levels .pins) l ≤ levels .pins
-    count-in = omega (arith, level-inside (levels .pins) l l one (le-refl l) few)
+    count-in : 2 ^ d - 1 + countOf (levels .pins) d ≤ levels .pins
+    count-in = omega (arith, level-inside (levels .pins) d (suc d) (le-refl (suc d)) few)
 
-    stores-length : length stores ≡ countOf (levels .pins) l
-    stores-length = level-length list l one (rw list-length few) ∙ ap (λ (n : ℕ). countOf n l) list-length
+    stores-length : length stores ≡ countOf (levels .pins) d
+    stores-length = level-length list d (rw list-length few) ∙ ap (λ (n : ℕ). countOf n d) list-length
 
     -- what a level is decoded to
-    level-values : (vs : List ℕ) → decodedAt levels s l ≡ all vs → vs ≡ stores
+    level-values : (vs : List ℕ) → decodedAt levels s d ≡ all vs → vs ≡ stores
     unfolding fetchedAt
     level-values vs e =
-        let d = decode-fetches (codeOf levels l) (countOf (levels .pins) l) (partOf levels s l) vs e in
-        ext-getD 0 vs stores (d .0 ∙ sym stores-length) (λ j h.
-        let k : j < countOf (levels .pins) l = rw (d .0) at h in
-        let v = firstOf l + j in
-        let lv : height v ≡ l = level-is j k in
-        let p : v - firstOf l ≡ j = omega arith in
-        let q : suc (firstOf l - 1 + j) ≡ v = omega (arith, pow-pos (l - 1)) in
-        let f : fetchedAt levels s v ≡ value (getD vs j 0) = rw (lv, p) (d .1 j k) in
-        let g : getD vs j 0 ≡ stored list v = values-same (sym f ∙ listed-value v (omega (arith, pow-pos (l - 1))) (omega (arith, count-in, pow-pos (l - 1)))) in
-        let k′ : j < countOf (length (storedValues list)) l = rw (length-stored list ∙ list-length) k in
-        g ∙ sym (level-at (storedValues list) l j k′ ∙ getD-stored list (firstOf l - 1 + j) (rw list-length (omega (arith, count-in))) ∙ ap (stored list) q))
+        let f = decode-fetches (codeOf levels d) (countOf (levels .pins) d) (partOf (levels .ends) s d) vs e in
+        ext-getD 0 vs stores (f .0 ∙ sym stores-length) (λ j h.
+        let k : j < countOf (levels .pins) d = rw (f .0) at h in
+        let v = 2 ^ d + j in
+        let lv = level-is d v (omega arith) (omega (arith, count-is (levels .pins) d)) in
+        let p : v - 2 ^ d ≡ j = omega arith in
+        let q : suc (2 ^ d - 1 + j) ≡ v = omega (arith, pow-pos d) in
+        let own : fetchedAt levels s v ≡ value (getD vs j 0) = rw (lv, p) (f .1 j k) in
+        let g : getD vs j 0 ≡ stored list v = values-same (sym own ∙ listed-value v (omega (arith, pow-pos d)) (omega (arith, count-in, pow-pos d))) in
+        let k′ : j < countOf (length (storedValues list)) d = rw (length-stored list ∙ list-length) k in
+        g ∙ sym (level-at (storedValues list) d j k′ ∙ getD-stored list (2 ^ d - 1 + j) (rw list-length (omega (arith, count-in))) ∙ ap (stored list) q))
       where
         values-same : {a b : ℕ} → value a ≡ value b → a ≡ b
         values-same e = cc
 
-        level-is : (j : ℕ) → j < countOf (levels .pins) l → height (firstOf l + j) ≡ l
-        level-is j k = let e : l ≡ suc (l - 1) = omega arith in height-is (l - 1) (firstOf l + j) (omega arith) (rw (← e) (omega (arith, pow-pos l))) ∙ sym e
-
-    chosen-values : levelChosen levels s l ≡ true → (chosen stores .code ≡ codeOf levels l) × (part (codeOf levels l) stores ≡ partOf levels s l)
-    chosen-values e = go (decodedAt levels s l) refl e
+    chosen-values : levelChosen levels s d ≡ true → (chosen stores .code ≡ codeOf levels d) × (part (codeOf levels d) stores ≡ partOf (levels .ends) s d)
+    chosen-values e = go (decodedAt levels s d) refl e
       where
-        go : (x : Decoded) → decodedAt levels s l ≡ x → chosenBy (codeOf levels l) (partOf levels s l) x ≡ true
-            → (chosen stores .code ≡ codeOf levels l) × (part (codeOf levels l) stores ≡ partOf levels s l)
-        go (all vs) p q = rw (← (level-values vs p)) (chosen-parts .told (codeOf levels l) vs (partOf levels s l) q)
+        go : (x : Decoded) → decodedAt levels s d ≡ x → chosenBy (codeOf levels d) (partOf (levels .ends) s d) x ≡ true
+            → (chosen stores .code ≡ codeOf levels d) × (part (codeOf levels d) stores ≡ partOf (levels .ends) s d)
+        go (all vs) p q = rw (← (level-values vs p)) (chosen-parts .told (codeOf levels d) vs (partOf (levels .ends) s d) q)
         go undecoded p q = absurd (false≢true q)
 
 pub listed-chosen : ChosenStored
-listed-chosen levels s e whole l one few = chosen-values levels s whole l one few (chosen-each levels s (height (levels .pins)) e l one few)
+listed-chosen levels s e whole d few = chosen-values levels s whole d few (chosen-each levels s (height (levels .pins)) e d few)

@@ -3,43 +3,37 @@ use mathlib.Core.Path.{_≡_}
 use mathlib.Core.List.{List}
 use Prim.Native.Nat.{ℕ, suc, _+_, _-_, _*_, _^_, _≤_, _<_, min}
 use native.Mathlib.Nat.{pow-succ'}
-use native.Mathlib.Numerals.{add-one}
 use native.Mathlib.Omega.{arith}
 use lib.ListN.{length, getD, length-take}
 use lib.Pow.{pow-pos, pow-mono}
 use Rattle.codes.specs.Fetch.{Fetched, fetched}
 use Rattle.tree.specs.declared.nodes.Levels.{Levels}
-use Rattle.tree.specs.Levels.{countOf, partOf, partBelow, fetchedAt, Fits}
+use Rattle.tree.specs.Levels.{countOf, levelOf, codeOf, partOf, fetchedAt, Fits}
 use Rattle.tree.proofs.Heights.{height-is, height-above, height-bound}
 
 -- how many nodes the level below d others has
-pub count-is : (n d : ℕ) → countOf n (suc d) ≡ min (n + 1 - 2 ^ d) (2 ^ d)
-count-is n d =
-    let e : suc d - 1 ≡ d = omega arith in
-    rw (e, pow-succ' 2 d) (omega (arith, pow-pos d))
+pub count-is : (n d : ℕ) → countOf n d ≡ min (n + 1 - 2 ^ d) (2 ^ d)
+count-is n d = rw (pow-succ' 2 d) (omega (arith, pow-pos d))
 
 -- from node `first` to node `last`
-pub count-between : (n d first last : ℕ) → first ≡ 2 ^ d → last ≡ min n (2 * first - 1) → last - (first - 1) ≡ countOf n (suc d)
-count-between n d first last e l =
-    let p : suc d - 1 ≡ d = omega arith in
-    rw (l, e, p, pow-succ' 2 d) (less (min n (2 * 2 ^ d - 1)) (2 ^ d) (pow-pos d))
+pub count-between : (n d first last : ℕ) → first ≡ 2 ^ d → last ≡ min n (2 * first - 1) → last - (first - 1) ≡ countOf n d
+count-between n d first last e l = rw (l, e, pow-succ' 2 d) (less (min n (2 * 2 ^ d - 1)) (2 ^ d) (pow-pos d))
   where
     less : (m p : ℕ) → 1 ≤ p → m - (p - 1) ≡ suc m - p
     less m p h = omega arith
 
+-- the level of a node
+pub level-is : (d v : ℕ) → 2 ^ d ≤ v → v < 2 * 2 ^ d → levelOf v ≡ d
+level-is d v lo hi = omega (arith, height-is d v lo (omega arith))
+
 -- from the level below d others, which begins with node `first`
 abbrev pub fetchIn : Levels → List ℕ → ℕ → ℕ → ℕ → Fetched
 fetchIn at s d v first =
-    fetched (getD (at .codes) d 0) (min (at .pins + 1 - first) first) (v - first) (partBelow (at .ends) s d)
-
-fetched-at : (at : Levels) (s : List ℕ) (d v : ℕ) → 2 ^ d ≤ v → v < 2 * 2 ^ d → fetchedAt at s v ≡ fetchIn at s d v (2 ^ d)
-unfolding fetchedAt partOf
-fetched-at at s d v lo hi =
-    let e : suc d - 1 ≡ d = omega arith in
-    rw (height-is d v lo (omega arith), count-is (at .pins) d, e, add-one d)
+    fetched (codeOf at d) (min (at .pins + 1 - first) first) (v - first) (partOf (at .ends) s d)
 
 pub fetched-from : (at : Levels) (s : List ℕ) (d v first : ℕ) → first ≡ 2 ^ d → 2 ^ d ≤ v → v < 2 * 2 ^ d → fetchedAt at s v ≡ fetchIn at s d v first
-fetched-from at s d v first e lo hi = rw e (fetched-at at s d v lo hi)
+unfolding fetchedAt
+fetched-from at s d v first e lo hi = rw (e, level-is d v lo hi, count-is (at .pins) d)
 
 -- a level that has a node lies in the bytes
 pub record Level (at : Levels) (s : List ℕ) (d : ℕ) : Type 0 where
@@ -67,5 +61,5 @@ level-fits {at} {s} {d} f lo hi =
 pub index-below : (n d v first count : ℕ) → first ≡ 2 ^ d → 2 ^ d ≤ v → v < 2 * 2 ^ d → v ≤ n → count ≡ min (n + 1 - first) first → v - first < count
 index-below n d v first count e lo hi k c = omega arith
 
-pub part-short : {at : Levels} {s : List ℕ} {d : ℕ} → Level at s d → length (partBelow (at .ends) s d) < 2 ^ 32
+pub part-short : {at : Levels} {s : List ℕ} {d : ℕ} → Level at s d → length (partOf (at .ends) s d) < 2 ^ 32
 part-short l = rw length-take (omega (arith, l .short))

@@ -11,10 +11,11 @@ use lib.ListN.{length, getD}
 use lib.Pow.{pow-pos}
 use borrow.Author.Tests.{lt-ltb, le-ltb}
 use Rattle.tree.specs.Shape.{height, childOf}
+use Rattle.tree.specs.Levels.{levelOf}
 use Rattle.tree.specs.Outcomes.{Outcome}
 use Rattle.tree.specs.Walks.{walkIn, walk, never, isBelow, remember, lastOf}
 use Rattle.tree.specs.Sweeps.{dropped, legsFrom, opened, sweepNodes}
-use Rattle.tree.proofs.Heights.{height-mono}
+use Rattle.tree.proofs.Heights.{height-mono, height-above}
 use Rattle.tree.proofs.Walks.{child-bounds, height-child, walk-out}
 
 -- the places under node v on the level below the last, of a tree of n pins: so many, from `first` on
@@ -50,6 +51,12 @@ level-rises {n} {u} {v} (sooner a) e = elim (decLt u v) [
   | no m ↦ let k : v ≤ u = omega arith in absurd (omega (arith, mul-le-mul-right (wide n v) k, rw e at a))
 ]
 level-rises (above a b) e = absurd (omega arith)
+
+-- what comes after 0 is on some level
+some-level : {n : ℕ} (v : ℕ) → Before n 0 v → 1 ≤ height v
+some-level zero (sooner a) = absurd (omega arith)
+some-level (suc v) (sooner a) = height-above (suc v) 0 (omega arith)
+some-level v (above a b) = omega arith
 
 twice-left : (v w : ℕ) → childOf false v * w ≡ v * (2 * w)
 unfolding childOf
@@ -189,9 +196,12 @@ opens n time u from kept (t ∷ ts) e s =
     (λ w ks x. opens n time w (suc n) ks ts x (nowhere (omega arith)))
 
 pub nodes-rise : (n : ℕ) (time : ℕ → Outcome ℕ) (ts : List ℕ) (i j : ℕ) → let vs = sweepNodes n time ts in
-    i < j → j < length vs → height (getD vs i 0) ≡ height (getD vs j 0) → getD vs i 0 < getD vs j 0
+    i < j → j < length vs → levelOf (getD vs i 0) ≡ levelOf (getD vs j 0) → getD vs i 0 < getD vs j 0
 unfolding first Under
-nodes-rise n time ts i j k h e = level-rises (rising-pairs n 0 (sweepNodes n time ts) (opens n time 0 1 [] ts begin root) i j k h) e
+nodes-rise n time ts i j k h e =
+    let vs = sweepNodes n time ts in
+    let r = opens n time 0 1 [] ts begin root in
+    level-rises (rising-pairs n 0 vs r i j k h) (omega (arith, some-level _ (rising-all n 0 vs r i (omega arith)), some-level _ (rising-all n 0 vs r j h)))
   where
     begin : Ends n 0 []
     begin = record { end = 1; inside = omega arith; under = tt }

@@ -1,7 +1,7 @@
 -- The promises of specs/Promises.
 use mathlib.Core.Path.{_≡_, sym, ap, subst, _∙_}
 use mathlib.Core.List.{List}
-use Prim.Native.Nat.{ℕ, zero, suc, _-_, _^_, _≤_, min}
+use Prim.Native.Nat.{ℕ, suc, _-_, _^_, _≤_, min}
 use native.Mathlib.Nat.{le-refl}
 use native.Mathlib.Omega.{arith}
 use lib.Dec.{eqb, ltb}
@@ -10,13 +10,14 @@ use lib.Pow.{pow-pos}
 use Rattle.codes.specs.Decode.{all}
 use Rattle.tree.specs.declared.nodes.Levels.{Levels}
 use Rattle.tree.specs.Shape.{rank}
-use Rattle.tree.specs.Levels.{firstOf, levelOf, fetchedAt}
+use Rattle.tree.specs.Levels.{levelOf, fetchedAt}
 use Rattle.tree.specs.declared.walking.Found.{Found}
 use Rattle.tree.specs.Times.{timesIn}
 use Rattle.tree.specs.Listing.{accesses}
 use Rattle.tree.specs.Walks.{toward, accessAnswer}
 use Rattle.tree.specs.Promises.{HeightLeast, Shape, Contents, HeldReads, DifferentFew, AccessOpens, StoredLevels, ListingFinds, ChosenStored, StoredChosen, DecodedChosen, ZeroMarks, OutcomeLaws, SweepRises}
-use Rattle.tree.proofs.Heights.{digits, height-bound, height-le, height-is}
+use Rattle.tree.proofs.Heights.{digits, height-bound, height-le}
+use Rattle.tree.proofs.NodeFetches.{level-is}
 use Rattle.tree.proofs.Stretches.{stretch-root, stretch-left, stretch-right, node-iff}
 use Rattle.tree.proofs.Inorder.{tree}
 use Rattle.tree.proofs.Outcomes.{gives-same, gives-refuses, verdict-append, verdict-gives}
@@ -40,19 +41,11 @@ height-least = record {
   least = λ n h k. height-le n h (omega (arith, pow-pos h));
 }
 
-level-from : (n v l : ℕ) → 1 ≤ v → v ≤ n → levelOf v ≡ l → (firstOf l ≤ v) × (v ≤ min n (2 ^ l - 1))
-level-from n v l h k e =
-    let d = digits v h in
-    let t : l ≡ suc (d .top) = sym e ∙ d .is in
-    let f : suc (d .top) - 1 ≡ d .top = omega arith in
-    rw t (rw f (d .least), omega (arith, d .below))
-
-level-to : (n v l : ℕ) → 1 ≤ v → (firstOf l ≤ v) × (v ≤ min n (2 ^ l - 1)) → levelOf v ≡ l
-level-to n v zero h b = absurd (omega arith)
-level-to n v (suc l) h b =
-    let f : suc l - 1 ≡ l = omega arith in
-    let lo : 2 ^ l ≤ v = rw f at (b .0) in
-    height-is l v lo (omega (arith, b .1, pow-pos (suc l)))
+level-from : (n v d : ℕ) → 1 ≤ v → v ≤ n → levelOf v ≡ d → (2 ^ d ≤ v) × (v ≤ min n (2 ^ suc d - 1))
+level-from n v d h k e =
+    let t = digits v h in
+    let top : d ≡ t .top = omega (arith, t .is) in
+    rw top (t .least, omega (arith, t .below))
 
 pub shape : (n : ℕ) → Shape n
 shape n = record {
@@ -63,8 +56,8 @@ shape n = record {
   ranks = rank-lt n;
   each = λ i h. rank-found (tree n) i (omega arith) h;
   once = rank-once n;
-  level = λ v. sym (fromRoot-length v);
-  levels = λ v l h k. (level-from n v l h k, level-to n v l h);
+  level = λ v. rw (fromRoot-length v);
+  levels = λ v d h k. (level-from n v d h k, λ b. level-is d v (b .0) (omega (arith, pow-pos d)));
   paths = λ stop past v h. walk-length n stop past v h;
 }
 

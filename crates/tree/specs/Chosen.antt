@@ -15,12 +15,12 @@ chosenBy code bytes (all vs) = isChosen code vs bytes
 chosenBy code bytes undecoded = false
 
 abbrev pub levelChosen : Levels → List ℕ → ℕ → Bool
-levelChosen at s l = chosenBy (codeOf at l) (partOf at s l) (decodedAt at s l)
+levelChosen at s d = chosenBy (codeOf at d) (partOf (at .ends) s d) (decodedAt at s d)
 
--- the first k levels
+-- the first k levels; level k stands after them
 unfoldable pub chosenTo : Levels → List ℕ → ℕ → Bool
 chosenTo at s zero = true
-chosenTo at s (suc k) = chosenTo at s k && levelChosen at s (suc k)
+chosenTo at s (suc k) = chosenTo at s k && levelChosen at s k
 
 abbrev pub allChosen : Levels → List ℕ → Bool
 allChosen at s = chosenTo at s (height (at .pins))

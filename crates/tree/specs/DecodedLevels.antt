@@ -8,9 +8,9 @@ use Rattle.tree.specs.declared.nodes.Levels.{Levels}
 use Rattle.tree.specs.Shape.{height}
 use Rattle.tree.specs.Levels.{countOf, codeOf, partOf}
 
--- what level L is decoded to
+-- what a level is decoded to
 abbrev pub decodedAt : Levels → List ℕ → ℕ → Decoded
-decodedAt at s l = decoded (codeOf at l) (countOf (at .pins) l) (partOf at s l)
+decodedAt at s d = decoded (codeOf at d) (countOf (at .pins) d) (partOf (at .ends) s d)
 
 -- values, then those of another level
 abbrev pub joined : Decoded → Decoded → Decoded
@@ -18,10 +18,10 @@ joined (all us) (all vs) = all (us ++ vs)
 joined (all us) undecoded = undecoded
 joined undecoded d = undecoded
 
--- what the first k levels are decoded to, in node order
+-- what the first k levels are decoded to, in node order; level k stands after them
 unfoldable pub decodedTo : Levels → List ℕ → ℕ → Decoded
 decodedTo at s zero = all []
-decodedTo at s (suc k) = joined (decodedTo at s k) (decodedAt at s (suc k))
+decodedTo at s (suc k) = joined (decodedTo at s k) (decodedAt at s k)
 
 -- all levels
 abbrev pub decodedLevels : Levels → List ℕ → Decoded

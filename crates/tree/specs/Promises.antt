@@ -16,7 +16,7 @@ use Rattle.tree.specs.declared.nodes.Levels.{Levels}
 use Rattle.tree.specs.Shape.{height, sideOf, stretch, rank}
 use Rattle.tree.specs.Lists.{ordered, smaller}
 use Rattle.tree.specs.Stored.{timeOf, storedValues}
-use Rattle.tree.specs.Levels.{firstOf, levelOf, codeOf, partOf, levelValues, Stores}
+use Rattle.tree.specs.Levels.{levelOf, codeOf, partOf, levelValues, Stores}
 use Rattle.tree.specs.LevelMarks.{LevelMarks}
 use Rattle.tree.specs.declared.walking.Found.{Found}
 use Rattle.tree.specs.Outcomes.{Outcome, gives, refuses, after, verdict}
@@ -44,9 +44,10 @@ pub record Shape (n : ℕ) : Type 0 where
   pub ranks : (v : ℕ) → 1 ≤ v → v ≤ n → rank n v < n
   pub each : (i : ℕ) → i < n → (v : ℕ) × (1 ≤ v) × (v ≤ n) × (rank n v ≡ i)
   pub once : (u v : ℕ) → 1 ≤ u → u ≤ n → 1 ≤ v → v ≤ n → rank n u ≡ rank n v → u ≡ v
-  -- a node's level is the number of nodes from the root to it, and level L holds nodes 2 ^ (L - 1) to min(n, 2 ^ L - 1)
-  pub level : (v : ℕ) → levelOf v ≡ length (fromRoot v)
-  pub levels : (v l : ℕ) → 1 ≤ v → v ≤ n → (levelOf v ≡ l) ↔ ((firstOf l ≤ v) × (v ≤ min n (2 ^ l - 1)))
+  -- a node's level is the number of nodes above it on the way from the root, and the level below d others, 01's level d + 1, holds nodes
+  -- 2 ^ d to min(n, 2 ^ (d + 1) - 1)
+  pub level : (v : ℕ) → levelOf v ≡ length (fromRoot v) - 1
+  pub levels : (v d : ℕ) → 1 ≤ v → v ≤ n → (levelOf v ≡ d) ↔ ((2 ^ d ≤ v) × (v ≤ min n (2 ^ suc d - 1)))
   -- no walk down, whatever its tests, has more nodes than the height
   pub paths : (stop past : ℕ → Bool) (v : ℕ) → 1 ≤ v → length (walk n stop past v) ≤ height n
 
@@ -96,9 +97,9 @@ pub record AccessOpens : Type 0 where
 pub record StoredLevels : Type 0 where
   pub count : (xs : List ℕ) → length (storedValues xs) ≡ length xs
   pub within : (w : ℕ) (xs : List ℕ) → Within w xs → Within w (storedValues xs)
-  pub level-within : (w : ℕ) (values : List ℕ) (l : ℕ) → Within w values → Within w (levelValues values l)
-  pub half : (values : List ℕ) (l : ℕ) → 2 * length (levelValues values l) ≤ length values + 1
-  pub above : (values : List ℕ) (d : ℕ) → min (length values) (2 ^ d - 1) + length (levelValues values (suc d)) ≤ min (length values) (2 ^ suc d - 1)
+  pub level-within : (w : ℕ) (values : List ℕ) (d : ℕ) → Within w values → Within w (levelValues values d)
+  pub half : (values : List ℕ) (d : ℕ) → 2 * length (levelValues values d) ≤ length values + 1
+  pub above : (values : List ℕ) (d : ℕ) → min (length values) (2 ^ d - 1) + length (levelValues values d) ≤ min (length values) (2 ^ suc d - 1)
 
 -- 6. Every time that is listed has 32 bits. Where nothing is refused every position has one.
 pub record ListingFinds : Type 0 where
@@ -109,15 +110,15 @@ pub record ListingFinds : Type 0 where
 -- the tree of the listed times stores.
 abbrev pub ChosenStored : Type 0
 ChosenStored = (levels : Levels) (s : List ℕ) → allChosen levels s ≡ true → stopAll levels s ≡ gives tt
-    → (l : ℕ) → 1 ≤ l → l ≤ height (levels .pins)
-    → let vs = levelValues (storedValues (timesAll levels s)) l in
-    (chosen vs .code ≡ codeOf levels l) × (part (codeOf levels l) vs ≡ partOf levels s l)
+    → (d : ℕ) → d < height (levels .pins)
+    → let vs = levelValues (storedValues (timesAll levels s)) d in
+    (chosen vs .code ≡ codeOf levels d) × (part (codeOf levels d) vs ≡ partOf (levels .ends) s d)
 
 -- 8. The other way round: levels that hold what a list's tree stores, each in the code that pack chooses, are what pack writes for the
 -- values that they are decoded to.
 abbrev pub StoredChosen : Type 0
 StoredChosen = (levels : Levels) (s xs : List ℕ) → Stores levels s xs
-    → ((l : ℕ) → 1 ≤ l → l ≤ height (length xs) → codeOf levels l ≡ chosen (levelValues (storedValues xs) l) .code)
+    → ((d : ℕ) → d < height (length xs) → codeOf levels d ≡ chosen (levelValues (storedValues xs) d) .code)
     → allChosen levels s ≡ true
 
 -- 9. Levels that are decoded have the values that stand in the buffer then; where one is not, they are not what pack writes.

@@ -94,12 +94,12 @@ pub fn construct(values: &mut [u32], times: &[u32])
     fill(values, times, 0, times.len(), 1, 0);
 }
 
-// Of a tree's values in node order, those on level `level`.
-pub fn level_values(values: &[u32], level: usize) -> &[u32]
-    requires { ⌜ (1 ≤ level) × (level ≤ height (length (now values))) ⌝ }
-    ensures { λ r. ⌜ now r ≡ levelValues (now (values .entry)) level ⌝ }
+// Of a tree's values in node order, those of the level below `depth` others.
+pub fn level_values(values: &[u32], depth: usize) -> &[u32]
+    requires { ⌜ depth < height (length (now values)) ⌝ }
+    ensures { λ r. ⌜ now r ≡ levelValues (now (values .entry)) depth ⌝ }
 {
-    let first = power_of_two(level - 1);
+    let first = power_of_two(depth);
     let last = least(values.len(), 2 * first - 1);
     &values[first - 1..last]
 }

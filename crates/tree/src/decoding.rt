@@ -44,7 +44,7 @@ pub fn are_chosen(values: &[u32], s: &[u8], levels: Levels) -> bool
         let start = levels.ends[d];
         let end = levels.ends[d + 1];
         let code = levels.codes[d];
-        if !codes::is_chosen(level_values(values, d + 1), &s[start..end], code) {
+        if !codes::is_chosen(level_values(values, d), &s[start..end], code) {
             return false;
         }
         d += 1;

@@ -12,7 +12,7 @@ ghost use Rattle.tree.specs.Outcomes.{gives, refuses};
 ghost use Rattle.tree.specs.Times.{numberOf, nodeOf, under, timeTold, timeFetched};
 
 // The pin count, each level's code byte and each level's end. Entry 0 of the ends is where the first level starts; so the part
-// of level L, counted from 1, is the strip's bytes from entry L - 1 up to entry L.
+// of the level below d others is the strip's bytes from entry d up to entry d + 1.
 pub struct Levels {
     pub pins: usize,
     pub codes: [u8; 16],

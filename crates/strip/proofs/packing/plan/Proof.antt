@@ -6,10 +6,11 @@ use lib.ListN.{length, getD}
 use Rattle.codes.specs.declared.choosing.Choice.{Choice}
 use Rattle.codes.specs.Codes.{Within}
 use Rattle.codes.specs.Choice.{chosen}
+use Rattle.tree.specs.Levels.{levelValues}
 use Rattle.strip.specs.Layout.{partsStart, endAfter, entered}
-use Rattle.strip.specs.Image.{valuesAt, codeFor, lengthFor}
+use Rattle.strip.specs.Image.{codeFor, lengthFor}
 use Rattle.strip.proofs.Layouts.{height-fits, entered-none, entered-next, entered-all, end-start, end-next}
-use Rattle.strip.proofs.Plans.{level-next, level-short, level-code, length-chosen, size-small}
+use Rattle.strip.proofs.Plans.{level-short, level-code, length-chosen, size-small}
 use Rattle.strip.proofs.packing.plan.Statement.{statement}
 use Rattle.strip.proofs.packing.plan.Tie as tie
 
@@ -45,9 +46,6 @@ loop-holds c =
       λ j. c .before .before .before .shared-slice-known .given j .fits,
     )
 
-add-level-values : tie.Need-add-level-values Inv-loop μ-loop
-add-level-values c = omega arith
-
 level-values-requires : tie.Need-level-values-requires Inv-loop μ-loop
 level-values-requires c κs = omega arith
 
@@ -55,13 +53,13 @@ choose-requires : tie.Need-choose-requires Inv-loop μ-loop
 choose-requires c κs =
     let l = c .before .before .loop in
     let values = c .before .before .before .before .before .before .before .args .values .now in
-    rw (c .level-values .ensures, level-next values (l .d)) (omega (arith, level-short values (l .d)))
+    rw (c .level-values .ensures) (omega (arith, level-short values (l .d)))
 
 add-end : tie.Need-add-end Inv-loop μ-loop
 add-end c =
     let l = c .before .before .before .before .loop in
     let values = c .before .before .before .before .before .before .before .before .before .args .values .now in
-    let ch : c .before .choose .result ≡ chosen (valuesAt values (l .d)) = c .before .choose .ensures ∙ ap chosen (c .before .before .level-values .ensures ∙ level-next values (l .d)) in
+    let ch : c .before .choose .result ≡ chosen (levelValues values (l .d)) = c .before .choose .ensures ∙ ap chosen (c .before .before .level-values .ensures) in
     omega (arith, ap (λ (x : Choice). x .size) ch, size-small values (l .inv .5) (l .d), level-short values (l .d))
 
 add-end-2 : tie.Need-add-end-2 Inv-loop μ-loop
@@ -92,8 +90,7 @@ loop-again c =
     let n = length values in
     let d = l .d in
     let next : d + 1 ≡ suc d = omega arith in
-    let r = c .before .before .level-values .ensures ∙ level-next values d in
-    let ch : c .before .choose .result ≡ chosen (valuesAt values d) = c .before .choose .ensures ∙ ap chosen r in
+    let ch : c .before .choose .result ≡ chosen (levelValues values d) = c .before .choose .ensures ∙ ap chosen (c .before .before .level-values .ensures) in
     let e : l .end + (c .before .choose .result .size + 7) / 8 ≡ endAfter (partsStart n) (lengthFor values) (suc d) =
     rw (ch, l .inv .3, ← (length-chosen values (l .inv .5) d)) (sym (end-next (partsStart n) (lengthFor values) d)) in (
       l .inv .0,
@@ -120,7 +117,6 @@ plan-spec =
     no-levels-requires
     element-copy-out-end
     loop-holds
-    add-level-values
     level-values-requires
     choose-requires
     add-end

@@ -3,7 +3,7 @@
 use native.Mathlib.Omega.{arith}
 use mathlib.Core.Path.{_≡_, refl, sym, ap, _∙_}
 use mathlib.Core.List.{List, _++_}
-use Prim.Native.Nat.{ℕ, suc, _-_, _≤_}
+use Prim.Native.Nat.{ℕ, _-_, _≤_}
 use lib.ListN.{length, drop, getD}
 use borrow.Rule.Slice.PartMut.{midOf, putMid}
 use Rattle.codes.specs.Codes.{part, Within}
@@ -13,7 +13,7 @@ use Rattle.strip.specs.Layout.{partsStart}
 use Rattle.strip.specs.Image.{partFor, joined}
 use Rattle.tree.specs.Buffers.{replaced}
 use Rattle.strip.proofs.Layouts.{height-fits}
-use Rattle.strip.proofs.Plans.{plan-pins, plan-spot, level-next, level-holds}
+use Rattle.strip.proofs.Plans.{plan-pins, plan-spot, level-holds}
 use Rattle.tree.proofs.Buffers.{replaced-none, replaced-more, length-replaced}
 use Rattle.strip.proofs.Pieces.{joined-next, length-lent, lent-written}
 use Rattle.strip.proofs.writing.put_parts.Statement.{statement}
@@ -70,9 +70,6 @@ part-encode-start c =
 part-encode-end : tie.Need-part-encode-end Inv-loop μ-loop
 part-encode-end c = omega arith
 
-add-level-values : tie.Need-add-level-values Inv-loop μ-loop
-add-level-values c = omega arith
-
 level-values-requires : tie.Need-level-values-requires Inv-loop μ-loop
 level-values-requires c κs = omega arith
 
@@ -86,8 +83,8 @@ encode-requires c κs =
     let k = plan-spot values (p .0) (a .t4) (p .2) d (omega arith) in
     let e = c .level-values .ensures in
     let q = k .part-is _ e in (
-      rw (k .code-is, e, level-next values d) (level-holds values (l .inv .3) d),
-      (rw (q, length-lent (l .out) (getD (a .t4 .ends) d 0)) (omega (arith, k .room)), rw (e, level-next values d) (omega (arith, stored-levels .half values (suc d)))),
+      rw (k .code-is, e) (level-holds values (l .inv .3) d),
+      (rw (q, length-lent (l .out) (getD (a .t4 .ends) d 0)) (omega (arith, k .room)), rw e (omega (arith, stored-levels .half values d))),
     )
 
 add-d : tie.Need-add-d Inv-loop μ-loop
@@ -153,7 +150,6 @@ put-parts-spec =
     sub-encode
     part-encode-start
     part-encode-end
-    add-level-values
     level-values-requires
     encode-requires
     add-d

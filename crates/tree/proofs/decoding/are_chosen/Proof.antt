@@ -2,17 +2,16 @@
 use native.Mathlib.Omega.{arith}
 use mathlib.Core.Path.{_≡_, refl, sym, ap, _∙_}
 use mathlib.Core.Bool.{true}
-use Prim.Native.Nat.{suc, _+_, _-_, _^_, _≤_, _<_}
-use native.Mathlib.Numerals.{add-one}
+use Prim.Native.Nat.{_+_, _-_, _^_, _≤_, _<_}
 use lib.ListN.{length, getD, length-take}
 use borrow.Author.Tests.{not-true, not-false}
 use Rattle.tree.specs.Shape.{height}
-use Rattle.tree.specs.Levels.{levelValues}
-use Rattle.tree.specs.Chosen.{levelChosen, chosenTo}
+use Rattle.tree.specs.Levels.{codeOf, partOf, levelValues}
+use Rattle.tree.specs.Chosen.{chosenBy, levelChosen, chosenTo}
 use Rattle.tree.proofs.NodeFetches.{pins-bound}
 use Rattle.tree.proofs.LevelValues.{level-half}
 use Rattle.tree.proofs.AllValues.{values-count, decoded-values, level-decodes}
-use Rattle.tree.proofs.LevelsChosen.{chosen-level, chosen-next, chosen-not}
+use Rattle.tree.proofs.LevelsChosen.{chosen-next, chosen-not}
 use Rattle.tree.proofs.decoding.are_chosen.Statement.{statement}
 use Rattle.tree.proofs.decoding.are_chosen.Tie as tie
 
@@ -46,13 +45,13 @@ lies c =
     (f .in-order d h, f .inside d h, f .short d h)
 
 -- the level is compared
-compared : (c : tie.After-is-chosen Inv-loop μ-loop) → let i = c .before .before .before .before .before .before in let a = start (i .before) .args in levelChosen (a .t3) (a .s .now) (suc (i .before .loop .d)) ≡ c .is-chosen .result
+compared : (c : tie.After-is-chosen Inv-loop μ-loop) → let i = c .before .before .before .before .before .before in let a = start (i .before) .args in levelChosen (a .t3) (a .s .now) (i .before .loop .d) ≡ c .is-chosen .result
 compared c =
     let i = c .before .before .before .before .before .before in
     let a = start (i .before) .args in
     let d = i .before .loop .d in
-    chosen-level (a .t3) (a .s .now) d _ (decoded-values (a .t3) (a .s .now) (a .values .now) (start (i .before) .pre .1) (suc d) (omega arith) (omega arith))
-    ∙ sym (rw (c .before .before .level-values .ensures ∙ ap (levelValues (a .values .now)) (add-one d)) at (c .is-chosen .ensures))
+    ap (chosenBy (codeOf (a .t3) d) (partOf (a .t3 .ends) (a .s .now) d)) (decoded-values (a .t3) (a .s .now) (a .values .now) (start (i .before) .pre .1) d (omega arith))
+    ∙ sym (rw (c .before .before .level-values .ensures) at (c .is-chosen .ensures))
 
 mul-start : tie.Need-mul-start Inv-loop μ-loop
 mul-start c = omega arith
@@ -72,11 +71,8 @@ element-copy-out-end c = omega arith
 element-copy-out-code : tie.Need-element-copy-out-code Inv-loop μ-loop
 element-copy-out-code c = omega arith
 
-add-level-values : tie.Need-add-level-values Inv-loop μ-loop
-add-level-values c = omega arith
-
 level-values-requires : tie.Need-level-values-requires Inv-loop μ-loop
-level-values-requires c κs = (omega arith, rw (count (c .before .before .before)) (omega arith))
+level-values-requires c κs = rw (count (c .before .before .before)) (omega arith)
 
 sub-is-chosen : tie.Need-sub-is-chosen Inv-loop μ-loop
 sub-is-chosen c = omega (arith, lies (c .before .before .before .before))
@@ -93,8 +89,8 @@ is-chosen-requires c κs =
     let a = start (i .before) .args in
     let d = i .before .loop .d in
     let own = level-decodes (a .t3) (a .s .now) (a .values .now) (start (i .before) .pre .1) d (omega arith) in
-    let few : length (levelValues (a .values .now) (suc d)) < 2 ^ 32 = omega (arith, level-half (a .values .now) (suc d), count i, pins-bound (a .t3) (a .s .now) (start (i .before) .pre .0)) in
-    rw (c .before .level-values .ensures ∙ ap (levelValues (a .values .now)) (add-one d)) ((few, simp length-take (omega (arith, lies i))), own)
+    let few : length (levelValues (a .values .now) d) < 2 ^ 32 = omega (arith, level-half (a .values .now) d, count i, pins-bound (a .t3) (a .s .now) (start (i .before) .pre .0)) in
+    rw (c .before .level-values .ensures) ((few, simp length-take (omega (arith, lies i))), own)
 
 returns : tie.Need-returns Inv-loop μ-loop
 returns c =
@@ -136,7 +132,6 @@ are-chosen-spec =
     mul-end
     element-copy-out-end
     element-copy-out-code
-    add-level-values
     level-values-requires
     sub-is-chosen
     part-is-chosen-start

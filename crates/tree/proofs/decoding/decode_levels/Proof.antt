@@ -2,20 +2,20 @@
 use native.Mathlib.Omega.{arith}
 use mathlib.Core.Path.{_≡_, refl, sym, ap, _∙_}
 use mathlib.Core.List.{List, _++_, append-nil}
-use Prim.Native.Nat.{ℕ, suc, _+_, _-_, _*_, _^_, _≤_, _<_, min}
+use Prim.Native.Nat.{ℕ, _+_, _-_, _*_, _^_, _≤_, _<_, min}
 use native.Mathlib.Nat.{le-of-eq, pow-succ'}
 use native.Mathlib.Numerals.{add-one}
-use lib.ListN.{length, take, getD, replicate, length-take, length-drop, drop-of-length-le}
+use lib.ListN.{length, take, replicate, length-take, length-drop, drop-of-length-le}
 use lib.Seq.{take-all}
 use borrow.Author.Tests.{not-true, not-false}
 use borrow.Rule.Slice.PartMut.{midOf, putMid, same-len-mid, mid-len}
 use Rattle.codes.specs.Decode.{all, decoded, isDecoded, decodedOr0}
 use Rattle.tree.specs.Shape.{height}
-use Rattle.tree.specs.Levels.{partBelow}
+use Rattle.tree.specs.Levels.{countOf, codeOf, partOf}
 use Rattle.tree.specs.DecodedLevels.{decodedAt, decodedTo, decodedLevels}
 use Rattle.tree.proofs.Heights.{height-above, height-le}
-use Rattle.tree.proofs.NodeFetches.{count-is, count-between, Level, level-fits}
-use Rattle.tree.proofs.AllValues.{front-put, decoded-level, decoded-next, decoded-not}
+use Rattle.tree.proofs.NodeFetches.{count-between, Level, level-fits}
+use Rattle.tree.proofs.AllValues.{front-put, decoded-next, decoded-not}
 use Rattle.tree.proofs.decoding.decode_levels.Statement.{statement}
 use Rattle.tree.proofs.decoding.decode_levels.Tie as tie
 
@@ -71,14 +71,13 @@ few c = let l = at-loop c .loop in mid-len (l .first - 1) (last c) (l .values) (
 
 -- what the level is decoded to, with as many values as the code has
 decodes : (c : tie.After-decode Inv-loop μ-loop) → let l = at-loop c .loop in let a = start (at-loop c) .args in
-    decodedAt (a .t3) (a .s .now) (suc (l .depth)) ≡ decoded (getD (a .t3 .codes) (l .depth) 0) (length (midOf (l .first - 1) (last c - (l .first - 1)) (l .values)))
-    (partBelow (a .t3 .ends) (a .s .now) (l .depth))
+    decodedAt (a .t3) (a .s .now) (l .depth) ≡ decoded (codeOf (a .t3) (l .depth)) (length (midOf (l .first - 1) (last c - (l .first - 1)) (l .values)))
+    (partOf (a .t3 .ends) (a .s .now) (l .depth))
 decodes c =
     let l = at-loop c .loop in
     let a = start (at-loop c) .args in
-    let count : min (a .t3 .pins + 1 - 2 ^ l .depth) (2 ^ l .depth) ≡ length (midOf (l .first - 1) (last c - (l .first - 1)) (l .values)) =
-    sym (few c ∙ count-between (length (l .values)) (l .depth) (l .first) (last c) (l .inv .2) (last-is c) ∙ count-is (length (l .values)) (l .depth) ∙ ap (λ (n : ℕ). min (n + 1 - 2 ^ l .depth) (2 ^ l .depth)) (l .inv .1 ∙ sym (start (at-loop c) .pre .1))) in
-    rw (← count) (decoded-level (a .t3) (a .s .now) (l .depth))
+    ap (λ (n : ℕ). decoded (codeOf (a .t3) (l .depth)) n (partOf (a .t3 .ends) (a .s .now) (l .depth)))
+    (sym (few c ∙ count-between (length (l .values)) (l .depth) (l .first) (last c) (l .inv .2) (last-is c) ∙ ap (λ (n : ℕ). countOf n (l .depth)) (l .inv .1 ∙ sym (start (at-loop c) .pre .1))))
 
 -- as many values as before
 kept : (c : tie.After-decode Inv-loop μ-loop) → let l = at-loop c .loop in
