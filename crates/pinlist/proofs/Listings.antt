@@ -10,7 +10,7 @@ use native.Mathlib.Omega.{arith}
 use lib.ListN.{length, take, getD, length-append, length-take}
 use lib.Seq.{take-all}
 use borrow.Author.Tests.{lt-ltb, le-ltb}
-use Rattle.strip.specs.Outcomes.{Outcome, gives, refuses}
+use Rattle.tree.specs.Outcomes.{Outcome, gives, refuses}
 use Rattle.strip.specs.Calls.{checkOf, plainList}
 use Rattle.pinlist.specs.Texts.{ascii, decimal, numeral, header, line, mostInLine, linesFrom, listing, refusalLine, mostBytes, printed}
 use Rattle.pinlist.specs.Promises.{PiecesJoin, ReadsEnough}

@@ -5,6 +5,7 @@ use mathlib.Core.List.{List, _++_}
 use Prim.Native.Nat.{ℕ, _+_, _^_, _<_}
 use lib.ListN.{length, take, getD}
 use Rattle.io.specs.Digits.{Fewest}
+use Rattle.tree.specs.Outcomes.{gives}
 use Rattle.tree.specs.Walks.{found, toward}
 use Rattle.strip.specs.Calls.{accessOf, plainList}
 use Rattle.strip.specs.Demands.{Accepted}
@@ -18,7 +19,7 @@ FewestDigits = (n : ℕ) → n < 2 ^ 64 → Fewest 10 1 n (placesIn 19 n)
 abbrev pub ListsByAccess : Type 0
 ListsByAccess =
     (s : List ℕ) → Accepted s → (i : ℕ) → i < length (plainList s)
-    → accessOf s i ≡ found (getD (plainList s) i 0) (length (toward (length (plainList s)) i))
+    → accessOf s i ≡ gives (found (getD (plainList s) i 0) (length (toward (length (plainList s)) i)))
 
 -- 3. The lines of k positions and those of m more are the lines of k + m positions. So pieces one after the other make a listing.
 abbrev pub PiecesJoin : Type 0

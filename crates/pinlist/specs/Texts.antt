@@ -7,7 +7,7 @@ use Prim.Native.String.{String, [] as []ˢ, _∷_ as _∷ˢ_}
 use lib.Dec.{ltb}
 use lib.ListN.{length, getD}
 use Rattle.io.specs.Digits.{digits}
-use Rattle.strip.specs.Outcomes.{follow}
+use Rattle.tree.specs.Outcomes.{follow}
 use Rattle.strip.specs.Calls.{checkOf, plainList}
 
 -- the bytes of a text in ASCII

@@ -1,11 +1,11 @@
 // The text that is printed, put into a buffer piece by piece.
-use strip::Accessed;
 use strip::Strip;
+use strip::Walked;
 ghost use mathlib.Core.Path.{_≡_};
 ghost use Prim.Native.Nat.{_+_, _<_, _≤_};
 ghost use lib.ListN.{length, getD};
 ghost use Rattle.tree.specs.Buffers.{replaced};
-ghost use Rattle.strip.specs.Outcomes.{gives};
+ghost use Rattle.tree.specs.Outcomes.{gives};
 ghost use Rattle.strip.specs.Calls.{checkOf, plainList};
 ghost use Rattle.strip.specs.Demands.{Accepted};
 ghost use Rattle.pinlist.specs.Texts.{numeral, header, line, linesFrom, mostInLine, refusalLine};
@@ -80,8 +80,8 @@ fn time_at(s: &[u8], i: usize) -> usize
 {
     let accessed = Strip::access(s, i);
     match accessed {
-        Accessed::Time(t, _) => t as usize,
-        Accessed::Refused(_) => 0,
+        Walked::Found(f) => f.value,
+        Walked::Refused(_) => 0,
     }
 }
 

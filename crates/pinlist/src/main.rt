@@ -14,7 +14,7 @@ ghost use mathlib.Core.Path.{_≡_};
 ghost use mathlib.Core.List.{_++_};
 ghost use Prim.Native.Nat.{_+_, _≤_};
 ghost use lib.ListN.{length, take};
-ghost use Rattle.strip.specs.Outcomes.{gives, refuses};
+ghost use Rattle.tree.specs.Outcomes.{gives, refuses};
 ghost use Rattle.strip.specs.Calls.{checkOf};
 ghost use Rattle.pinlist.specs.Texts.{mostBytes, printed};
 

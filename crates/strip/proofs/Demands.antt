@@ -25,17 +25,21 @@ use Rattle.tree.specs.Walks.{found, toward, path}
 use Rattle.tree.specs.Sweeps.{different}
 use Rattle.tree.specs.Promises.{Held, Contents}
 use Rattle.tree.proofs.Promises.{held-reads, different-few, outcome-laws}
+use Rattle.strip.specs.declared.strip.Packed.{Packed}
+use Rattle.strip.specs.declared.strip.Packed.the-variants as packing
 use Rattle.strip.specs.declared.strip.Checked.{Checked}
-use Rattle.strip.specs.declared.strip.Checked.the-variants.{Pins, Refused}
+use Rattle.strip.specs.declared.strip.Checked.the-variants as checking
+use Rattle.strip.specs.declared.strip.Walked.{Walked}
+use Rattle.strip.specs.declared.strip.Walked.the-variants as walking
 use Rattle.strip.specs.declared.strip.Swept.{Swept}
 use Rattle.strip.specs.declared.strip.Swept.the-variants as sweeping
 use Rattle.strip.specs.declared.walker.Walker.{Walker}
 use Rattle.strip.specs.Layout.{maxPins}
 use Rattle.strip.specs.Image.{Packable, image}
 use Rattle.strip.specs.Opening.{opening}
-use Rattle.strip.specs.Calls.{packOf, written, packOutput, searchOf, sweepOf, sweepOutput, swept, listIn, checkIn, checkOf, checked, plainList, unpackOf, unpackOutput, movedBy, stepOf, nextOf, walkerStep, walkerAfter, walkerAfterSteps}
+use Rattle.strip.specs.Calls.{packOf, written, packOutput, packed, searchOf, walked, sweepOf, sweepOutput, swept, listIn, checkIn, checkOf, checked, plainList, unpackOf, unpackOutput, movedBy, stepOf, nextOf, walkerStep, walkerAfter, walkerAfterSteps}
 use Rattle.strip.specs.Promises.{Opens}
-use Rattle.strip.specs.Demands.{PacksTo, UnpacksTo, Accepted, CheckAccepts, CodeAccepts, Demand2, SweepsAs, CodeSweepsAs, Demand3, WalkerLists}
+use Rattle.strip.specs.Demands.{PacksTo, UnpacksTo, Accepted, CheckAccepts, Demand2, SweepsAs, Demand3, WalkerLists}
 use Rattle.codes.proofs.Lists.{same-lists, same-itself}
 use Rattle.strip.proofs.Verdicts.{verdict-passed}
 use Rattle.strip.proofs.Sweeps.{targets-follow}
@@ -43,6 +47,16 @@ use Rattle.strip.proofs.Readings.{check-all}
 use Rattle.strip.proofs.OpenImages.{open-packable}
 use Rattle.strip.proofs.Checks.{accepts}
 use Rattle.strip.proofs.Promises.{image-opens, round-trip}
+
+-- ---- an answer of the code that gives a number
+
+code-packs : (r : Packed) (n : ℕ) → packed r ≡ gives n → r ≡ packing.Length n
+code-packs (packing.Length m) n e = ap packing.Length (outcome-laws .same e)
+code-packs (packing.Refused r) n e = absurd (outcome-laws .never (sym e))
+
+code-checks : (r : Checked) (n : ℕ) → checked r ≡ gives n → r ≡ checking.Pins n
+code-checks (checking.Pins m) n e = ap checking.Pins (outcome-laws .same e)
+code-checks (checking.Refused r) n e = absurd (outcome-laws .never (sym e))
 
 -- ---- from a list to its strip
 
@@ -147,9 +161,11 @@ counts s xs out w to = ap checkOf (image-is xs s out to) ∙ check-back xs (pack
 check-accepts : (s : List ℕ) → Accepted s → CheckAccepts s
 check-accepts s (xs, w, (out, to)) = (length xs, counts s xs out w to)
 
-code-accepts : (s : List ℕ) (r : Checked) → checked r ≡ checkOf s → CodeAccepts r ↔ Accepted s
-code-accepts s (Pins n) e = (λ _. accepted s (n, sym e), λ _. tt)
-code-accepts s (Refused r) e = (λ h. absurd h, λ a. outcome-laws .never (sym (e ∙ check-accepts s a .1)))
+code-accepts : (s : List ℕ) (r : Checked) → checked r ≡ checkOf s → ((n : ℕ) × (r ≡ checking.Pins n)) ↔ Accepted s
+code-accepts s r e = (
+  λ (n, is). accepted s (n, sym e ∙ ap checked is),
+  λ a. let (n, c) = check-accepts s a in (n, code-checks r n (e ∙ c)),
+)
 
 one-list : (s xs out : List ℕ) → Within 32 xs → PacksTo xs s out → Packable xs × (xs ≡ plainList s)
 one-list s xs out w to =
@@ -164,17 +180,24 @@ searches s (xs, w, (out, to)) t =
     let one = one-list s xs out w to in
     ap (λ (l : List ℕ). searchOf l t) (image-is xs s out to) ∙ round-trip xs (one .0) .search t ∙ ap (λ (l : List ℕ). gives (found (smaller t l) (length (path l t)))) (one .1)
 
+code-searches : (s : List ℕ) → Accepted s → (t : ℕ) (r : Walked) → walked r ≡ searchOf s t → r ≡ walking.Found (found (smaller t (plainList s)) (length (path (plainList s) t)))
+code-searches s a t (walking.Found f) e = ap walking.Found (outcome-laws .same (e ∙ searches s a t))
+code-searches s a t (walking.Refused r) e = absurd (outcome-laws .never (sym (e ∙ searches s a t)))
+
 pub demand-2 : Demand2
 demand-2 = record {
   packs = packs;
+  code-packs = λ xs p out room r after e q. let to = packs xs p out room in (code-packs r (length (image xs)) (e ∙ to .0), q ∙ to .1);
   one-strip = image-is;
   fewest-bits = λ xs p. (levels xs p, opens xs p .bits);
   unpacks = unpacks-back;
+  code-unpacks = λ xs p out room r after e q. let to = unpacks-back xs p out room in (code-checks r (length xs) (e ∙ to .0), q ∙ to .1);
   accepts = λ s. (accepted s, check-accepts s);
-  pin-count = pin-count;
   code-accepts = code-accepts;
+  pin-count = pin-count;
   one-list = one-list;
   searches = searches;
+  code-searches = code-searches;
 }
 
 -- ---- sweep
@@ -215,9 +238,10 @@ module _ (s ts answers : List ℕ) (a : Accepted s) (o : T (ordered ts)) (e : le
     at-most-heights = different-few .heights (plainList s) ts;
   }
 
-  code-sweeps : (r : Swept) (after : List ℕ) → swept r ≡ sweepOf s ts (length answers) → after ≡ sweepOutput s ts answers → CodeSweepsAs s ts r after
+  code-sweeps : (r : Swept) (after : List ℕ) → swept r ≡ sweepOf s ts (length answers) → after ≡ sweepOutput s ts answers
+      → (nodes : ℕ) × (r ≡ sweeping.Nodes nodes) × SweepsAs s ts nodes after
   code-sweeps (sweeping.Nodes k) after h q =
-      subst (SweepsAs s ts k) (sym q) (subst (λ (m : ℕ). SweepsAs s ts m (sweepOutput s ts answers)) (sym (outcome-laws .same (h ∙ swept-as .0))) sweeps)
+      (different (plainList s) ts, ap sweeping.Nodes (outcome-laws .same (h ∙ swept-as .0)), subst (SweepsAs s ts (different (plainList s) ts)) (sym q) sweeps)
   code-sweeps (sweeping.Refused r) after h q = absurd (outcome-laws .never (sym (h ∙ swept-as .0)))
 
 pub demand-3 : Demand3

@@ -229,6 +229,6 @@ module _ (s : List ℕ) (levels : Levels) (e : opening s ≡ gives levels) (all 
   open-packable = record {
     some = omega (arith, count, has-pins);
     few = pins-few;
-    times = listing-finds .within levels s (levels .pins);
+    times = listing-finds .within levels s;
     in-order = rw in-order tt;
   }

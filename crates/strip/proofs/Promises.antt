@@ -17,9 +17,9 @@ use Rattle.tree.specs.Levels.{levelValues}
 use Rattle.tree.specs.Listing.{accesses}
 use Rattle.tree.specs.Promises.{Held, Contents}
 use Rattle.tree.specs.declared.walking.Found.{Found}
-use Rattle.tree.specs.Outcomes.{Outcome, gives, refuses, after}
+use Rattle.tree.specs.Outcomes.{Outcome, gives, refuses, after, test}
 use Rattle.tree.specs.Times.{timesIn}
-use Rattle.tree.proofs.Promises.{stored-levels, held-reads, access-opens, outcome-laws}
+use Rattle.tree.proofs.Promises.{stored-levels, shape, held-reads, access-opens, outcome-laws}
 use Rattle.strip.specs.Image.{Packable, codeFor, planned, image}
 use Rattle.strip.specs.Opening.{opening}
 use Rattle.strip.specs.Calls.{accessIn, accessOf, searchOf, upToOf, repeatFrom, repeatOf, stepIn, stepOf}
@@ -45,6 +45,8 @@ module _ (xs : List ℕ) (p : Packable xs) where
   image-opened = record {
     bits = record {
       opened = opened;
+      shape = shape (length xs);
+      node-times = reads .node;
       stores = held .stores;
       fewest = λ d code b h. rw (image-code xs p d b) (omega (arith, best d .fewest code h, best d .its-size));
       on-tie = λ d code b h e. rw (image-code xs p d b) (best d .on-tie code h (rw (image-code xs p d b) at e ∙ sym (best d .its-size)));
@@ -59,7 +61,7 @@ module _ (xs : List ℕ) (p : Packable xs) where
   pins = held .stores .pins-are
 
   back : ReadsBack xs
-  unfolding accessOf searchOf upToOf repeatOf stepOf
+  unfolding accessOf searchOf upToOf repeatOf stepOf test
   back = record {
     access = λ i l. rw (opened, lt-leb (planned (storedValues xs) .pins) i (rw pins l)) (reads .access i l);
     search = λ t. rw opened (reads .search t);
@@ -96,6 +98,7 @@ repeat-later s r i e = rw (ap positionOr1 e) at (go (opening s))
 
 -- what an access gives has a node or more
 opens-some : (s : List ℕ) (i : ℕ) (levels : Levels) (f : Found) → accessIn s i levels ≡ gives f → 1 ≤ f .nodes
+unfolding test
 opens-some s i levels f e = elim (decLt i (levels .pins)) [
   | yes l ↦
       omega (arith, access-opens .count (levels .pins) _ i f (rw (lt-leb (levels .pins) i l) at e), access-opens .some (levels .pins) i (omega arith))

@@ -65,7 +65,7 @@ module _ (answer : ℕ → Outcome Found) (r : ℕ) where
   -- from the position after i on, where position i has a time
   gaps-from : (k i : ℕ) (f : Found) → answer i ≡ gives f
       → repeatFrom answer r k (suc i) ≡ gapsFrom r i (f .value ∷ timesFrom answer k (suc i)) (ending (stopFrom answer k (suc i)))
-  unfolding repeatFrom timesFrom stopFrom
+  unfolding repeatFrom timesFrom stopFrom test
   gaps-from zero i f e = rw (near-one r (f .value))
   gaps-from (suc k) i f e = go (answer (suc i)) refl (gaps-from k (suc i))
     where
@@ -88,7 +88,7 @@ module _ (answer : ℕ → Outcome Found) (r : ℕ) where
           here (no h) n = rw (le-ltb (g .value) (f .value) (omega arith), lt-ltb (g .value - f .value) r (omega arith))
 
   pub repeat-lists : (k : ℕ) → repeatFrom answer r k 0 ≡ gapOr r (timesFrom answer k 0) (ending (stopFrom answer k 0))
-  unfolding repeatFrom timesFrom stopFrom firstNear
+  unfolding repeatFrom timesFrom stopFrom test firstNear
   repeat-lists zero = refl
   repeat-lists (suc k) = go (answer 0) refl
     where
@@ -167,7 +167,8 @@ abbrev fallsTest : List ℕ → Test
 fallsTest xs = test (not (ordered xs)) 11 (firstLower xs)
 
 module _ (s : List ℕ) (levels : Levels) where
-  abbrev last : Outcome ℕ
+  -- 12
+  abbrev pub last : Outcome ℕ
   last = verdict (imageTest s levels ∷ []) (levels .pins)
 
   -- 11 for the times that are listed, then the refusal that ends them, then 12
@@ -182,11 +183,11 @@ module _ (s : List ℕ) (levels : Levels) where
   -- every position has a time
   pub check-all : stopAll levels s ≡ gives tt → checkIn s levels ≡ verdict (fallsTest (listIn s levels) ∷ imageTest s levels ∷ []) (levels .pins)
   unfolding verdict test
-  check-all e = check-lists ∙ rw e (falls-then (ordered (listIn s levels)))
+  check-all e = check-lists ∙ rw e (falls-then (ordered (listIn s levels)) last)
     where
-      falls-then : (b : Bool) {x : Outcome ℕ} → cond (not b) (refuses 11 (firstLower (listIn s levels))) x ≡ after (test (not b) 11 (firstLower (listIn s levels))) (λ _. x)
-      falls-then true = refl
-      falls-then false = refl
+      falls-then : (b : Bool) (x : Outcome ℕ) → cond (not b) (refuses 11 (firstLower (listIn s levels))) x ≡ after (test (not b) 11 (firstLower (listIn s levels))) (λ _. x)
+      falls-then true x = refl
+      falls-then false x = refl
 
   -- one is refused
   pub check-stopped : (r c : ℕ) → stopAll levels s ≡ refuses r c → checkIn s levels ≡ cond (not (ordered (listIn s levels))) (refuses 11 (firstLower (listIn s levels))) (refuses r c)

@@ -3,36 +3,44 @@ use mathlib.Core.Option.{Option, none, some}
 use Prim.Native.Nat.{ℕ}
 use Rattle.tree.specs.declared.shape.Ranked.{Ranked}
 use Rattle.tree.specs.declared.shape.Ranked.the-variants.{At, NoNode}
-use Rattle.tree.specs.Walks as walks
-use Rattle.strip.specs.declared.refusals.Refusal.{Refusal}
-use Rattle.strip.specs.Refusals.{refusalNumber, carried}
-use Rattle.strip.specs.Outcomes.{Outcome, gives, refuses}
+use Rattle.tree.specs.declared.walking.Found.{Found}
+use Rattle.tree.specs.Outcomes.{Outcome, follow}
 use Rattle.strip_c.specs.declared.Answer.{Answer}
 
--- the number of a refusal and what it carries
-abbrev pub ofRefusal : Refusal → Answer
-ofRefusal r = record { refusal = refusalNumber r; value = carried r; nodes = 0 }
+-- 0, what is given and the nodes opened
+abbrev pub given : ℕ → ℕ → Answer
+given x k = record { refusal = 0; value = x; nodes = k }
 
--- what is given and the nodes opened, or the number of a refusal and what it carries
-abbrev pub ofWalk : walks.Answer → Answer
-ofWalk (walks.found x k) = record { refusal = 0; value = x; nodes = k }
-ofWalk (walks.stopped r c) = record { refusal = r; value = c; nodes = 0 }
+-- the number of a refusal, what it carries and 0
+abbrev pub refused : ℕ → ℕ → Answer
+refused r c = record { refusal = r; value = c; nodes = 0 }
+
+abbrev pub ofWalk : Outcome Found → Answer
+ofWalk o = follow refused o (λ f. given (f .value) (f .nodes))
 
 -- of a call that opens no nodes
-abbrev pub ofOutcome : Outcome ℕ → Answer
-ofOutcome (gives x) = record { refusal = 0; value = x; nodes = 0 }
-ofOutcome (refuses r c) = record { refusal = r; value = c; nodes = 0 }
+abbrev pub ofNumber : Outcome ℕ → Answer
+ofNumber o = follow refused o (λ x. given x 0)
+
+-- of a sweep, which gives its nodes alone
+abbrev pub ofSweep : Outcome ℕ → Answer
+ofSweep o = follow refused o (λ k. given 0 k)
 
 -- of repeat: a position from 1 on, or 0 for none
+abbrev pub positionOr0 : Option ℕ → ℕ
+positionOr0 none = 0
+positionOr0 (some i) = i
+
 abbrev pub ofRepeat : Outcome (Option ℕ) → Answer
-ofRepeat (gives none) = record { refusal = 0; value = 0; nodes = 0 }
-ofRepeat (gives (some i)) = record { refusal = 0; value = i; nodes = 0 }
-ofRepeat (refuses r c) = record { refusal = r; value = c; nodes = 0 }
+ofRepeat o = follow refused o (λ x. given (positionOr0 x) 0)
 
 -- of a step of a pin walker: no nodes for end, which opens none
-abbrev pub ofStep : Option walks.Answer → Answer
-ofStep none = record { refusal = 0; value = 0; nodes = 0 }
-ofStep (some a) = ofWalk a
+abbrev pub foundOr0 : Option Found → Answer
+foundOr0 none = given 0 0
+foundOr0 (some f) = given (f .value) (f .nodes)
+
+abbrev pub ofStep : Outcome (Option Found) → Answer
+ofStep o = follow refused o foundOr0
 
 -- of rank: a position, or n where there is no such node
 abbrev pub positionOr : ℕ → Ranked → ℕ

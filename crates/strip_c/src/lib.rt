@@ -6,18 +6,18 @@ pub use refusals::number;
 ghost use mathlib.Core.Path.{_≡_};
 ghost use lib.ListN.{length};
 ghost use Rattle.tree.specs.Shape.{height, rootPlace, ranked};
-ghost use Rattle.strip.specs.Calls.{packOf, packOutput, accessOf, searchOf, searched, upToOf, sweepOf, sweepOutput, checkOf, checked, unpackOf, unpackOutput, repeatOf, stepOf, nextOf};
-ghost use Rattle.strip_c.specs.Numbers.{ofRefusal, ofWalk, ofOutcome, ofRepeat, ofStep, positionOr};
-use strip::Accessed;
+ghost use Rattle.strip.specs.Refusals.{refusalNumber, carried as carriedBy};
+ghost use Rattle.strip.specs.Calls.{packOf, packOutput, accessOf, searchOf, walked, upToOf, sweepOf, sweepOutput, checkOf, checked, unpackOf, unpackOutput, repeatOf, stepOf, nextOf};
+ghost use Rattle.strip_c.specs.Numbers.{given as givenBy, refused as refusedBy, ofWalk, ofNumber, ofSweep, ofRepeat, ofStep, positionOr};
 use strip::Checked;
 use strip::Packed;
 use strip::Ranked;
 use strip::Refusal;
 use strip::Repeated;
-use strip::Searched;
 use strip::Stepped;
 use strip::Strip;
 use strip::Swept;
+use strip::Walked;
 
 // 0, what is given and the nodes opened; or the number of a refusal, what it carries and 0.
 #[repr(C)]
@@ -28,7 +28,7 @@ pub struct Answer {
 }
 
 fn given(value: usize, nodes: usize) -> Answer
-    ensures { λ r. ⌜ r ≡ record { refusal = 0; value = value; nodes = nodes } ⌝ }
+    ensures { λ r. ⌜ r ≡ givenBy value nodes ⌝ }
 {
     Answer {
         refusal: 0,
@@ -38,7 +38,7 @@ fn given(value: usize, nodes: usize) -> Answer
 }
 
 fn refused(r: Refusal) -> Answer
-    ensures { λ x. ⌜ x ≡ ofRefusal r ⌝ }
+    ensures { λ x. ⌜ x ≡ refusedBy (refusalNumber r) (carriedBy r) ⌝ }
 {
     Answer {
         refusal: number(r),
@@ -47,19 +47,19 @@ fn refused(r: Refusal) -> Answer
     }
 }
 
-// The answer of a search or of up-to.
-fn found(r: Searched) -> Answer
-    ensures { λ x. ⌜ x ≡ ofWalk (searched r) ⌝ }
+// The answer of an access, a search or up-to.
+fn found(r: Walked) -> Answer
+    ensures { λ x. ⌜ x ≡ ofWalk (walked r) ⌝ }
 {
     match r {
-        Searched::Position(p, nodes) => given(p, nodes),
-        Searched::Refused(r) => refused(r),
+        Walked::Found(f) => given(f.value, f.nodes),
+        Walked::Refused(r) => refused(r),
     }
 }
 
 // The answer of check or of unpack.
 fn counted(r: Checked) -> Answer
-    ensures { λ x. ⌜ x ≡ ofOutcome (checked r) ⌝ }
+    ensures { λ x. ⌜ x ≡ ofNumber (checked r) ⌝ }
 {
     match r {
         Checked::Pins(n) => given(n, 0),
@@ -94,7 +94,7 @@ pub extern "C" fn gemcotton_rank(n: usize, node: usize) -> usize
 
 #[no_mangle]
 pub extern "C" fn gemcotton_pack(out: &mut [u8], times: &[u32]) -> Answer
-    ensures { λ r. ⌜ r ≡ ofOutcome (packOf (now (times .entry)) (length (now (out .entry)))) ⌝ }
+    ensures { λ r. ⌜ r ≡ ofNumber (packOf (now (times .entry)) (length (now (out .entry)))) ⌝ }
     ensures { λ r. ⌜ now (out .exit) ≡ packOutput (now (times .entry)) (now (out .entry)) ⌝ }
 {
     let packed = Strip::pack(out, times);
@@ -108,11 +108,7 @@ pub extern "C" fn gemcotton_pack(out: &mut [u8], times: &[u32]) -> Answer
 pub extern "C" fn gemcotton_access(s: &[u8], i: usize) -> Answer
     ensures { λ r. ⌜ r ≡ ofWalk (accessOf (now (s .entry)) i) ⌝ }
 {
-    let accessed = Strip::access(s, i);
-    match accessed {
-        Accessed::Time(t, nodes) => given(t as usize, nodes),
-        Accessed::Refused(r) => refused(r),
-    }
+    found(Strip::access(s, i))
 }
 
 #[no_mangle]
@@ -131,7 +127,7 @@ pub extern "C" fn gemcotton_up_to(s: &[u8], t: u32) -> Answer
 
 #[no_mangle]
 pub extern "C" fn gemcotton_sweep(answers: &mut [u32], s: &[u8], targets: &[u32]) -> Answer
-    ensures { λ r. ⌜ r ≡ ofWalk (sweepOf (now (s .entry)) (now (targets .entry)) (length (now (answers .entry))) .answer) ⌝ }
+    ensures { λ r. ⌜ r ≡ ofSweep (sweepOf (now (s .entry)) (now (targets .entry)) (length (now (answers .entry)))) ⌝ }
     ensures { λ r. ⌜ now (answers .exit) ≡ sweepOutput (now (s .entry)) (now (targets .entry)) (now (answers .entry)) ⌝ }
 {
     let swept = Strip::sweep(answers, s, targets);
@@ -143,14 +139,14 @@ pub extern "C" fn gemcotton_sweep(answers: &mut [u32], s: &[u8], targets: &[u32]
 
 #[no_mangle]
 pub extern "C" fn gemcotton_check(s: &[u8]) -> Answer
-    ensures { λ r. ⌜ r ≡ ofOutcome (checkOf (now (s .entry))) ⌝ }
+    ensures { λ r. ⌜ r ≡ ofNumber (checkOf (now (s .entry))) ⌝ }
 {
     counted(Strip::check(s))
 }
 
 #[no_mangle]
 pub extern "C" fn gemcotton_unpack(out: &mut [u32], s: &[u8]) -> Answer
-    ensures { λ r. ⌜ r ≡ ofOutcome (unpackOf (now (s .entry)) (length (now (out .entry)))) ⌝ }
+    ensures { λ r. ⌜ r ≡ ofNumber (unpackOf (now (s .entry)) (length (now (out .entry)))) ⌝ }
     ensures { λ r. ⌜ now (out .exit) ≡ unpackOutput (now (s .entry)) (now (out .entry)) ⌝ }
 {
     counted(Strip::unpack(out, s))
@@ -177,7 +173,7 @@ pub extern "C" fn gemcotton_step(next: &mut usize, s: &[u8]) -> Answer
     *next = moved.next;
     let step = moved.step;
     match step {
-        Stepped::Time(t, nodes) => given(t as usize, nodes),
+        Stepped::Found(f) => given(f.value, f.nodes),
         Stepped::End => given(0, 0),
         Stepped::Refused(r) => refused(r),
     }

@@ -1,6 +1,6 @@
--- A position has the numbers that `given` gives, with the nodes opened, and a refusal those of `refused`, as in `ofWalk`.
+-- What is found has the numbers that `given` gives, with the nodes opened, and a refusal those of `refused`, as in `ofWalk`.
 use mathlib.Core.Path.{sym, ap, _∙_}
-use Rattle.strip.specs.Calls.{searched}
+use Rattle.strip.specs.Calls.{walked}
 use Rattle.strip_c.specs.Numbers.{ofWalk}
 use borrow.Author.Needs.{needs}
 use Rattle.strip_c.proofs.found.Statement.{statement}
@@ -19,10 +19,10 @@ refused-requires : tie.Need-refused-requires
 refused-requires c κs = search needs
 
 returns : tie.Need-returns
-returns c = c .given .ensures ∙ ap ofWalk (ap searched (sym (c .before .before .r .given .1)))
+returns c = c .given .ensures ∙ ap ofWalk (ap walked (sym (c .before .before .r .given .1)))
 
 returns-2 : tie.Need-returns-2
-returns-2 c = c .refused .ensures ∙ ap ofWalk (ap searched (sym (c .before .before .r2 .given .1)))
+returns-2 c = c .refused .ensures ∙ ap ofWalk (ap walked (sym (c .before .before .r2 .given .1)))
 
 pub found-spec : {M : Type 1} → statement M
 found-spec =

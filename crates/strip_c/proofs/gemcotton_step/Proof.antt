@@ -12,9 +12,6 @@ step-requires c κs = search needs
 enum-known-step : tie.Need-enum-known-step
 enum-known-step c = search needs
 
-cast-given : tie.Need-cast-given
-cast-given c = search needs
-
 given-requires : tie.Need-given-requires
 given-requires c κs = search needs
 
@@ -51,7 +48,6 @@ gemcotton-step-spec =
     (tie.spec
     step-requires
     enum-known-step
-    cast-given
     given-requires
     enum-told
     given-requires-2

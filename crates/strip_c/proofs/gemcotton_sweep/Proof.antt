@@ -1,7 +1,7 @@
--- Sweep promises the answer and what it leaves in the answers lent; nodes and a refusal have the numbers of `ofWalk`.
+-- Sweep promises the answer and what it leaves in the answers lent; nodes and a refusal have the numbers of `ofSweep`.
 use mathlib.Core.Path.{sym, ap, _∙_}
 use Rattle.strip.specs.Calls.{swept}
-use Rattle.strip_c.specs.Numbers.{ofWalk}
+use Rattle.strip_c.specs.Numbers.{ofSweep}
 use borrow.Author.Needs.{needs}
 use Rattle.strip_c.proofs.gemcotton_sweep.Statement.{statement}
 use Rattle.strip_c.proofs.gemcotton_sweep.Tie as tie
@@ -25,13 +25,13 @@ same-length : tie.Need-same-length
 same-length c = search needs
 
 returns : tie.Need-returns
-returns c = (c .given .ensures ∙ ap ofWalk (ap swept (sym (c .before .before .swept .given .1)) ∙ c .before .before .before .before .before .before .sweep .ensures .0), c .before .before .before .before .before .before .sweep .ensures .1)
+returns c = (c .given .ensures ∙ ap ofSweep (ap swept (sym (c .before .before .swept .given .1)) ∙ c .before .before .before .before .before .before .sweep .ensures .0), c .before .before .before .before .before .before .sweep .ensures .1)
 
 same-length-2 : tie.Need-same-length-2
 same-length-2 c = search needs
 
 returns-2 : tie.Need-returns-2
-returns-2 c = (c .refused .ensures ∙ ap ofWalk (ap swept (sym (c .before .before .swept2 .given .1)) ∙ c .before .before .before .before .before .before .sweep .ensures .0), c .before .before .before .before .before .before .sweep .ensures .1)
+returns-2 c = (c .refused .ensures ∙ ap ofSweep (ap swept (sym (c .before .before .swept2 .given .1)) ∙ c .before .before .before .before .before .before .sweep .ensures .0), c .before .before .before .before .before .before .sweep .ensures .1)
 
 pub gemcotton-sweep-spec : {M : Type 1} → statement M
 gemcotton-sweep-spec =

@@ -2,11 +2,13 @@
 use native.Mathlib.Omega.{arith}
 use mathlib.Core.Path.{sym, _∙_}
 use borrow.Author.Tests.{lt-leb, le-leb}
+use Rattle.tree.specs.Outcomes.{test}
 use borrow.Author.Needs.{needs}
 use Rattle.strip.proofs.strip.access_open.Statement.{statement}
 use Rattle.strip.proofs.strip.access_open.Tie as tie
 
 returns : tie.Need-returns
+unfolding test
 returns c = let a = c .before .before .before .args in sym (rw (le-leb (a .levels .pins) (a .i) (omega arith)))
 
 access-requires : tie.Need-access-requires
@@ -16,6 +18,7 @@ walked-of-requires : tie.Need-walked-of-requires
 walked-of-requires c κs = search needs
 
 returns-2 : tie.Need-returns-2
+unfolding test
 returns-2 c = let a = c .before .before .before .before .before .args in rw (lt-leb (a .levels .pins) (a .i) (omega arith)) (c .walked-of .ensures ∙ c .before .access .ensures)
 
 pub access-open-spec : {M : Type 1} → statement M

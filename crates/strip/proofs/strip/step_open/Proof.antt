@@ -16,8 +16,8 @@ access-open-requires c κs = search needs
 enum-known-found : tie.Need-enum-known-found
 enum-known-found c = search needs
 
-add-t12 : tie.Need-add-t12
-add-t12 c = search needs
+add-t11 : tie.Need-add-t11
+add-t11 c = search needs
 
 enum-known-found-2 : tie.Need-enum-known-found-2
 enum-known-found-2 c = search needs
@@ -41,7 +41,7 @@ step-open-spec =
     returns
     access-open-requires
     enum-known-found
-    add-t12
+    add-t11
     enum-known-found-2
     returns-2
     returns-3)
