@@ -175,5 +175,5 @@ module _ {levels : Levels} {s nodes times : List ℕ} {t : ℕ} {p q : Progress}
       rw first-leg (
         met-append read (here .nodes) (opened later) _ answer ∙ rw (e, all, rest),
         rw (met-other read (here .nodes) (position n (here .kept)) answer, e, rest)
-        (ap (λ (i : ℕ). i ∷ positionsOn levels s nodes' u ts) (ap (position n) same ∙ sym (place .ends) ∙ stands-end (place .stands) h)),
+            (ap (λ (i : ℕ). i ∷ positionsOn levels s nodes' u ts) (ap (position n) same ∙ sym (place .ends) ∙ stands-end (place .stands) h)),
       )

@@ -13,11 +13,12 @@ use Rattle.tree.specs.declared.shape.Stretch.{Stretch}
 use Rattle.tree.specs.declared.nodes.Levels.{Levels}
 use Rattle.tree.specs.Shape.{height, rootPlace, childOf, sideOf, rank}
 use Rattle.tree.specs.Levels.{fetchedAt, Fits}
+use Rattle.tree.specs.LevelMarks.{LevelMarks}
 use Rattle.tree.specs.declared.walking.Found.{Found}
 use Rattle.tree.specs.Outcomes.{Outcome, gives, refuses, known, verdict}
 use Rattle.tree.specs.Times.{timeTold, under, timesIn}
 use Rattle.tree.specs.Walks.{found, met, towardFrom, toward, lastOf, accessAnswer, isBelow, searchNodes, remember, position, keptFrom, targetFrom}
-use Rattle.tree.specs.Standing.{Stands, accessFrom}
+use Rattle.tree.specs.Standing.{Stands, Opens, accessFrom}
 use Rattle.tree.proofs.Heights.{height-is}
 use Rattle.tree.proofs.Stretches.{stretch-root, stretch-child, side-in, pins-of-node, node-of-pins, no-pins, place-some, rank-is}
 use Rattle.tree.proofs.NodeTimes.{time-above, time-step, told-time}
@@ -64,6 +65,9 @@ module _ {levels : Levels} {s : List ℕ} {v depth : ℕ} {here : Stretch} {abov
 
   pub stands-level : Fits levels s → v ≤ levels .pins → Level levels s depth
   stands-level f k = level-fits f (w .low) k
+
+  pub stands-opens : Fits levels s → {marks : List ℕ} → LevelMarks (levels .ends) s marks → v ≤ levels .pins → Opens levels s marks depth v
+  stands-opens f m k = record { fits = f; marks = m; low = w .low; high = w .high; among = k }
 
   -- what opening the node tells is its time
   pub stands-told : (told : ℕ) → timeTold v told ≡ under v (gives above) (fetchedAt levels s v) → timesIn levels s v ≡ timeTold v told

@@ -34,10 +34,6 @@ under v (gives p) (value d) =
 abbrev pub timeTold : ℕ → ℕ → Outcome ℕ
 timeTold v x = cond (ltb x (2 ^ 32)) (gives x) (refuses (cond (ltb x (2 ^ 33)) 10 9) v)
 
--- node v's time by its parent's and by what is fetched for it, from the part of its level alone
-abbrev pub timeFetched : Levels → List ℕ → ℕ → ℕ → Outcome ℕ
-timeFetched levels s above v = under v (gives above) (fetchedAt levels s v)
-
 -- by the parent's time, f times; above the root the time is 0
 unfoldable pub nodeTimeIn : ℕ → (ℕ → Fetched) → ℕ → Outcome ℕ
 nodeTimeIn zero fetch v = gives 0

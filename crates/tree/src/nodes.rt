@@ -4,12 +4,12 @@ use codes::Found;
 use codes::fetch_short;
 use codes::least;
 ghost use mathlib.Core.Path.{_≡_};
-ghost use Prim.Native.Nat.{_*_, _^_, _≤_, _<_};
+ghost use Prim.Native.Nat.{_^_, _≤_};
 ghost use Rattle.codes.specs.Fetch.{value};
-ghost use Rattle.tree.specs.Levels.{levelsOf, Fits};
-ghost use Rattle.tree.specs.LevelMarks.{LevelMarks};
+ghost use Rattle.tree.specs.Levels.{levelsOf};
 ghost use Rattle.tree.specs.Outcomes.{gives, refuses};
-ghost use Rattle.tree.specs.Times.{numberOf, nodeOf, under, timeTold, timeFetched};
+ghost use Rattle.tree.specs.Times.{numberOf, nodeOf, under, timeTold};
+ghost use Rattle.tree.specs.Standing.{Opens, Tells};
 
 // The pin count, each level's code byte and each level's end. Entry 0 of the ends is where the first level starts; so the part
 // of the level below d others is the strip's bytes from entry d up to entry d + 1.
@@ -77,10 +77,8 @@ pub(crate) fn open_full<'a>(
     v: usize,
     above: u32,
 ) -> u64
-    requires { ⌜ Fits (levelsOf n (now codes) (now ends)) (now s) × LevelMarks (now ends) (now s) (now marks) ⌝ }
-    requires { ⌜ (2 ^ depth ≤ v) × (v < 2 * 2 ^ depth) × (v ≤ n) ⌝ }
-    ensures { λ r. ⌜ timeTold v r ≡ timeFetched (levelsOf n (now (codes .entry)) (now (ends .entry))) (now (s .entry)) above v ⌝ }
-    ensures { λ r. ⌜ LevelMarks (now (ends .entry)) (now (s .entry)) (now (marks .exit)) ⌝ }
+    requires { ⌜ Opens (levelsOf n (now codes) (now ends)) (now s) (now marks) depth v ⌝ }
+    ensures { λ r. ⌜ Tells (levelsOf n (now (codes .entry)) (now (ends .entry))) (now (s .entry)) (now (marks .exit)) above v r ⌝ }
 {
     let start = ends[depth];
     let end = ends[depth + 1];
@@ -109,10 +107,8 @@ pub(crate) fn open_node<'a>(
     v: usize,
     above: u32,
 ) -> u64
-    requires { ⌜ Fits (levelsOf n (now codes) (now ends)) (now s) × LevelMarks (now ends) (now s) (now marks) ⌝ }
-    requires { ⌜ (2 ^ depth ≤ v) × (v < 2 * 2 ^ depth) × (v ≤ n) ⌝ }
-    ensures { λ r. ⌜ timeTold v r ≡ timeFetched (levelsOf n (now (codes .entry)) (now (ends .entry))) (now (s .entry)) above v ⌝ }
-    ensures { λ r. ⌜ LevelMarks (now (ends .entry)) (now (s .entry)) (now (marks .exit)) ⌝ }
+    requires { ⌜ Opens (levelsOf n (now codes) (now ends)) (now s) (now marks) depth v ⌝ }
+    ensures { λ r. ⌜ Tells (levelsOf n (now (codes .entry)) (now (ends .entry))) (now (s .entry)) (now (marks .exit)) above v r ⌝ }
 {
     let start = ends[depth];
     let end = ends[depth + 1];

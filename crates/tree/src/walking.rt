@@ -36,12 +36,12 @@ pub fn access(s: &[u8], levels: Levels, i: usize) -> Walked
     let mut below = height(goal);
     let mut depth: usize = 0;
     let mut time: u32 = 0;
-    let mut nodes: usize = 0;
+    let mut opened: usize = 0;
     while below > 0 {
         below -= 1;
         let v = goal >> below;
         let mut none = [0usize; 0];
-        nodes += 1;
+        opened += 1;
         let told = open_node(&mut none, s, &levels.ends, &levels.codes, n, depth, v, time);
         if told >= LIMIT {
             return Walked::Refused(refusal_of(v, told));
@@ -51,7 +51,7 @@ pub fn access(s: &[u8], levels: Levels, i: usize) -> Walked
     }
     Walked::Found(Found {
         value: time as usize,
-        nodes: nodes,
+        nodes: opened,
     })
 }
 

@@ -85,8 +85,7 @@ returns-2 : tie.Need-returns-2
 unfolding listIn
 returns-2 c =
     let list = c .before .before .before .before .before .before .before .before .before .before in
-    let is = c .before .before .before .before .listed .given .1 in
-    (
+    let is = c .before .before .before .before .listed .given .1 in (
       c .gap-or2 .ensures ∙ rw (list .before .before .before .gap-of .ensures, front list _ is .is, c .before .of-walk .ensures .0, c .before .of-walk .ensures .1) (told-lists list _ is),
       list .list .ensures .1 .0,
     )

@@ -11,7 +11,7 @@ use Rattle.tree.specs.declared.listing.Listed.{Listed}
 use Rattle.tree.specs.Listing.{timesFrom, stopFrom, listed, endOf}
 use Rattle.tree.proofs.LevelMarks.{marks-zero}
 use Rattle.tree.proofs.NodeFetches.{Level}
-use Rattle.tree.proofs.Steps.{stands-node, stands-place, stands-level, stands-told, stands-time}
+use Rattle.tree.proofs.Steps.{stands-node, stands-place, stands-level, stands-opens, stands-told, stands-time}
 use Rattle.tree.proofs.Buffers.{replaced-none}
 use Rattle.tree.proofs.Listings.{listed-refused, stands-left, stands-right, listed-left, listed-right}
 use borrow.Author.Needs.{needs}
@@ -51,7 +51,7 @@ start t c = c .before .before .before .before .before .before .before .before .b
 
 -- the time of the node
 time-is : (t : ℕ) (c : Placed t) → let a = start t c .args in timesIn (a .t3) (a .s .now) (a .v) ≡ gives (c .before .before .before .open-full .result)
-time-is t c = stands-time (start t c .pre .1 .1 .0) (c .before .before .before .open-full .ensures .0) (omega arith)
+time-is t c = stands-time (start t c .pre .1 .1 .0) (c .before .before .before .open-full .ensures .time) (omega arith)
 
 -- the node is one of the tree, and its level lies in the bytes; its place is in its stretch, and that in the list
 bounds : (t : ℕ) (c : Placed t) → let a = start t c .args in
@@ -74,7 +74,7 @@ slice-aggregate-open-full t c = search needs
 open-full-requires : (t : ℕ) → lts.Need-open-full-requires (calls t) (given t) reads.Post
 open-full-requires t c κs =
     let p = c .before .before .before .before .before .before .before .pre .1 in
-    ((p .0 .0, marks-zero _ _ 0), (p .1 .0 .low, p .1 .0 .high, stands-node (p .1 .0) (omega arith)))
+    stands-opens (p .1 .0) (p .0 .0) (marks-zero _ _ 0) (stands-node (p .1 .0) (omega arith))
 
 refusal-of-requires : (t : ℕ) → lts.Need-refusal-of-requires (calls t) (given t) reads.Post
 refusal-of-requires t c κs = search needs
@@ -84,9 +84,8 @@ returns-2 t c =
     let node = c .before .before .before in
     let s = node .before .before .before .before .before .before .before .before in
     let p = s .pre .1 .1 in
-    let e = stands-told (p .0) (node .open-full .result) (node .open-full .ensures .0) ∙ sym (c .refusal-of .ensures) in
-    let z = listed-refused (p .0) (p .1) (omega arith) _ _ e in
-    (
+    let e = stands-told (p .0) (node .open-full .result) (node .open-full .ensures .time) ∙ sym (c .refusal-of .ensures) in
+    let z = listed-refused (p .0) (p .1) (omega arith) _ _ e in (
       record { outcome = sym (z .0); ends = sym (ap (λ (l : List ℕ). s .args .start + length l) (z .1) ∙ add-zero (s .args .start)) },
       sym (rw (z .1) (replaced-none (s .args .times .now) (s .args .start))),
     )

@@ -40,8 +40,7 @@ returns c =
     let count = values-count (a .levels) (a .s .now) (d .last .0) own in
     let ranks = rw count at (m .ensures (c .if2 .taken) (a .levels) (a .s .now) (known-values (a .levels) (a .s .now) (d .last .0) own)) in
     let n : length (m .last .0) ≡ a .levels .pins = m .kept .0 ∙ sym (b .pre .1) in
-    let z = ranks-known (a .levels) (a .s .now) (m .last .0) (sym n) ranks in
-    (
+    let z = ranks-known (a .levels) (a .s .now) (m .last .0) (sym n) ranks in (
       record { outcome = sym (z .1); ends = ap (λ (xs : ℕ). 0 + xs) (sym (ap length (z .0) ∙ n)) },
       (rw (z .0) (sym (filled-whole (a .levels .pins) (m .last .0) n)), record { told = sym done; left = d .ensures .left }),
     )

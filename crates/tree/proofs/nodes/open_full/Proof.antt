@@ -23,7 +23,7 @@ levels c = levelsOf (c .args .n) (c .args .codes .now) (c .args .ends .now)
 
 -- the node's level lies in the bytes
 level : (c : tie.Start) → Level (levels c) (c .args .s .now) (c .args .depth)
-level c = level-fits (c .pre .0 .0) (c .pre .1 .0) (c .pre .1 .2)
+level c = level-fits (c .pre .fits) (c .pre .low) (c .pre .among)
 
 -- and its marks among all
 room : (c : tie.Start) → let n = length (c .args .marks .now) in c .args .depth * (n / 16) + n / 16 ≤ n
@@ -36,8 +36,8 @@ start c = c .before .before .before .before .before .before .before .before .bef
 node-fetch : (c : tie.After-fetch) → let s = start c in fetchedAt (levels s) (s .args .s .now) (s .args .v) ≡ found (c .fetch .result)
 node-fetch c =
     let s = start c in
-    let p = s .pre .1 in
-    fetched-from (levels s) (s .args .s .now) (s .args .depth) (s .args .v) _ (c .before .before .before .before .power-of-two .ensures) (p .0) (p .1)
+    let p = s .pre in
+    fetched-from (levels s) (s .args .s .now) (s .args .depth) (s .args .v) _ (c .before .before .before .before .power-of-two .ensures) (p .low) (p .high)
     ∙ sym (rw (c .before .before .before .least .ensures) at (c .fetch .ensures .0))
 
 mul-start : tie.Need-mul-start
@@ -104,10 +104,10 @@ fetch-requires : tie.Need-fetch-requires
 fetch-requires c κs =
     let s = c .before .before .before .before .before .before .before .before .before in
     let a = s .args in
-    let p = s .pre .1 in (
-      index-below (a .n) (a .depth) (a .v) _ _ (c .before .before .before .power-of-two .ensures) (p .0) (p .1) (p .2) (c .before .before .least .ensures),
+    let p = s .pre in (
+      index-below (a .n) (a .depth) (a .v) _ _ (c .before .before .before .power-of-two .ensures) (p .low) (p .high) (p .among) (c .before .before .least .ensures),
       part-short (level s),
-      marks-lent (s .pre .0 .1) (a .depth) (level s .deep),
+      marks-lent (s .pre .marks) (a .depth) (level s .deep),
     )
 
 -- the marks after it are as many, and true
@@ -124,7 +124,7 @@ as-many c =
     same-len-mid (a .depth * k) (a .depth * k + k - a .depth * k) (a .marks .now) (c .fetch .last .0) (c .fetch .kept .0)
 
 marks-after : (c : tie.After-fetch) → LevelMarks (start c .args .ends .now) (start c .args .s .now) (after c)
-marks-after c = let s = start c in marks-back (s .pre .0 .1) (s .args .depth) (level s .deep) (c .fetch .last .0) (c .fetch .kept .0) (c .fetch .ensures .1)
+marks-after c = let s = start c in marks-back (s .pre .marks) (s .args .depth) (level s .deep) (c .fetch .last .0) (c .fetch .kept .0) (c .fetch .ensures .1)
 
 enum-known-found : tie.Need-enum-known-found
 enum-known-found c = search needs
@@ -142,7 +142,7 @@ returns : tie.Need-returns
 returns c =
     let f = c .before .before .before .before .before .before in
     let a = start f .args in
-    (c .time-under .ensures ∙ ap (under (a .v) (gives (a .above))) (sym (node-fetch f ∙ ap found (c .before .before .found .given .1))), marks-after f)
+    record { time = c .time-under .ensures ∙ ap (under (a .v) (gives (a .above))) (sym (node-fetch f ∙ ap found (c .before .before .found .given .1))); marks = marks-after f }
 
 same-length-2 : tie.Need-same-length-2
 same-length-2 c = as-many (c .before .before .before .before)
@@ -151,7 +151,7 @@ returns-2 : tie.Need-returns-2
 returns-2 c =
     let f = c .before .before .before .before in
     let a = start f .args in
-    (ap (under (a .v) (gives (a .above))) (sym (node-fetch f ∙ ap found (c .enum-told .given .1))), marks-after f)
+    record { time = ap (under (a .v) (gives (a .above))) (sym (node-fetch f ∙ ap found (c .enum-told .given .1))); marks = marks-after f }
 
 pub open-full-spec : {M : Type 1} → statement M
 open-full-spec =

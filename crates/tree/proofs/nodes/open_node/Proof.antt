@@ -14,7 +14,7 @@ use Rattle.tree.proofs.nodes.open_node.Tie as tie
 
 -- the node's level lies in the bytes
 level : (c : tie.Start) → Level (levelsOf (c .args .n) (c .args .codes .now) (c .args .ends .now)) (c .args .s .now) (c .args .depth)
-level c = level-fits (c .pre .0 .0) (c .pre .1 .0) (c .pre .1 .2)
+level c = level-fits (c .pre .fits) (c .pre .low) (c .pre .among)
 
 mul-start : tie.Need-mul-start
 mul-start c = omega (arith, level (c .before .before))
@@ -64,10 +64,13 @@ returns : tie.Need-returns
 returns c =
     let s = c .before .before .before .before .before .before .before .before .before .before in
     let a = s .args in
-    let p = s .pre .1 in
+    let p = s .pre in
     let short = c .before .before .fetch-short .ensures in
-    let node = fetched-from (levelsOf (a .n) (a .codes .now) (a .ends .now)) (a .s .now) (a .depth) (a .v) _ (c .before .before .before .power-of-two .ensures) (p .0) (p .1) in
-    (c .time-under .ensures ∙ ap (under (a .v) (gives (a .above))) (ap value short ∙ sym (short-fetches _ _ _ _ (rw (← short) (c .before .if1 .taken))) ∙ sym node), s .pre .0 .1)
+    let node = fetched-from (levelsOf (a .n) (a .codes .now) (a .ends .now)) (a .s .now) (a .depth) (a .v) _ (c .before .before .before .power-of-two .ensures) (p .low) (p .high) in
+    record {
+      time = c .time-under .ensures ∙ ap (under (a .v) (gives (a .above))) (ap value short ∙ sym (short-fetches _ _ _ _ (rw (← short) (c .before .if1 .taken))) ∙ sym node);
+      marks = p .marks;
+    }
 
 open-full-requires : tie.Need-open-full-requires
 open-full-requires c κs = search needs

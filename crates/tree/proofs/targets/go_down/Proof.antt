@@ -17,7 +17,7 @@ use Rattle.tree.specs.Remembering.{entries, Comes}
 use Rattle.tree.proofs.Heights.{height-above}
 use Rattle.tree.proofs.NodeFetches.{Level}
 use Rattle.tree.proofs.Walks.{child-bounds, height-child}
-use Rattle.tree.proofs.Steps.{stands-level, stands-told, stands-time, target-refused}
+use Rattle.tree.proofs.Steps.{stands-level, stands-opens, stands-told, stands-time, target-refused}
 use Rattle.tree.proofs.Remembering.{count-under, comes-right, comes-left}
 use Rattle.tree.proofs.targets.go_down.Statement.{statement}
 use Rattle.tree.proofs.targets.go_down.Tie as tie
@@ -71,8 +71,7 @@ add-opened c =
 open-node-requires : tie.Need-open-node-requires Inv-loop μ-loop
 open-node-requires c κs =
     let at-loop = c .before .before in
-    let w = stands at-loop in
-    ((start at-loop .pre .0 .0, at-loop .loop .inv .2), (w .low, w .high, c .before .loop-test .taken))
+    stands-opens (stands at-loop) (start at-loop .pre .0 .0) (at-loop .loop .inv .2) (c .before .loop-test .taken)
 
 refusal-of-requires : tie.Need-refusal-of-requires Inv-loop μ-loop
 refusal-of-requires c κs = omega arith
@@ -86,10 +85,10 @@ returns c =
     let a = start at-loop .args in
     let l = at-loop .loop in
     let told = c .before .before .before .before .open-node in
-    let e = stands-told (stands at-loop) (told .result) (told .ensures .0) ∙ sym (c .refusal-of .ensures) in
+    let e = stands-told (stands at-loop) (told .result) (told .ensures .time) ∙ sym (c .refusal-of .ensures) in
     let n = levels at-loop .pins in
     let stops = target-refused n (timesIn (levels at-loop) (a .s .now)) (a .way .target) (entries (l .nodes) (l .count)) (l .opened) (l .v) _ _ (stands at-loop .one) (c .before .before .before .before .before .before .loop-test .taken) e in
-    (sym (l .inv .0 .answer) ∙ stops, told .ensures .1)
+    (sym (l .inv .0 .answer) ∙ stops, told .ensures .marks)
 
 cast-time : tie.Need-cast-time Inv-loop μ-loop
 cast-time c = omega arith
@@ -143,12 +142,12 @@ loop-again c =
     let e = start (in-loop .before) in
     let m = in-loop .before .loop .inv .0 in
     let told = c .before .before .before .before .open-node in
-    let x = stands-time (stands (in-loop .before)) (told .ensures .0) (c .before .if1 .left) in
+    let x = stands-time (stands (in-loop .before)) (told .ensures .time) (c .before .if1 .left) in
     let t = e .args .way .target in
     let size : length (told .last .0) ≡ length (e .args .marks .now) = told .kept .0 ∙ in-loop .before .loop .inv .3 in
     ⊎-elim
-    (λ w. rw (w .2, w .3, w .4, w .5, w .1 .ensures) (comes-right t m (e .pre .0 .0) (in-loop .loop-test .taken) x (w .0 .taken), deeper in-loop true .0, told .ensures .1, size))
-    (λ w. rw (w .2, w .3, w .4, w .5, w .1 .ensures) (comes-left t m (e .pre .0 .0) (in-loop .loop-test .taken) x (w .0 .left), deeper in-loop false .0, told .ensures .1, size))
+    (λ w. rw (w .2, w .3, w .4, w .5, w .1 .ensures) (comes-right t m (e .pre .0 .0) (in-loop .loop-test .taken) x (w .0 .taken), deeper in-loop true .0, told .ensures .marks, size))
+    (λ w. rw (w .2, w .3, w .4, w .5, w .1 .ensures) (comes-left t m (e .pre .0 .0) (in-loop .loop-test .taken) x (w .0 .left), deeper in-loop false .0, told .ensures .marks, size))
     (c .if2 .came)
 
 same-length-2 : tie.Need-same-length-2 Inv-loop μ-loop

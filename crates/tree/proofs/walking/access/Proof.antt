@@ -1,7 +1,7 @@
 -- The nodes opened are the first digits of the goal, one digit more each, which are the nodes from the root down to it.
 use native.Mathlib.Omega.{arith}
 use mathlib.Core.Path.{_≡_, refl, sym, ap, ap₂, _∙_}
-use mathlib.Core.List.{List, _∷_}
+use mathlib.Core.List.{List, [], _∷_}
 use Prim.Native.Nat.{ℕ, _+_, _-_, _*_, _/_, _^_, _≤_, _<_}
 use native.Mathlib.Nat.{div-one, zero-add}
 use borrow.Author.Needs.{needs}
@@ -9,9 +9,10 @@ use lib.Pow.{shr-shr, shr-le, shr-lt, pow-pos}
 use Rattle.tree.specs.Shape.{height}
 use Rattle.tree.specs.Levels.{fetchedAt}
 use Rattle.tree.specs.declared.walking.Found.{Found}
-use Rattle.tree.specs.Outcomes.{gives, known, verdict}
+use Rattle.tree.specs.Outcomes.{Outcome, gives, known, verdict}
 use Rattle.tree.specs.Times.{timeTold, timesIn}
 use Rattle.tree.specs.Walks.{found, met, accessAnswer}
+use Rattle.tree.specs.Standing.{Opens}
 use Rattle.tree.proofs.Heights.{height-bound, height-mono, first-digits}
 use Rattle.tree.proofs.NodeTimes.{time-above, time-step, told-time}
 use Rattle.tree.proofs.LevelMarks.{marks-zero}
@@ -23,13 +24,13 @@ use Rattle.tree.proofs.walking.access.Tie as tie
 
 -- the nodes that are left are those from the root to `goal` on the levels below; the time is that of the last one opened
 abbrev Inv-loop : tie.InvT-loop
-Inv-loop s i levels n goal below₀ depth₀ time₀ nodes₀ below depth time nodes =
+Inv-loop s i levels n goal below₀ depth₀ time₀ opened₀ below depth time opened =
     let read = timesIn levels s in
-    (depth + below ≡ height goal) × (nodes ≡ depth) × (read (goal / 2 ^ below) ≡ gives time)
+    (depth + below ≡ height goal) × (opened ≡ depth) × (read (goal / 2 ^ below) ≡ gives time)
     × (met read (downTo goal below) (found (known (read goal)) (height goal)) ≡ accessAnswer (levels .pins) read i) × (time < 2 ^ 32)
 
 abbrev μ-loop : tie.MeasureT-loop
-μ-loop s i levels n goal below₀ depth₀ time₀ nodes₀ below depth time nodes = below
+μ-loop s i levels n goal below₀ depth₀ time₀ opened₀ below depth time opened = below
 
 node-of-requires : tie.Need-node-of-requires Inv-loop μ-loop
 node-of-requires c κs = omega (arith, c .before .pre .1, pins-bound (c .before .args .t2) (c .before .args .s .now) (c .before .pre .0))
@@ -51,6 +52,12 @@ loop-holds c =
       omega arith,
     )
 
+abbrev start : tie.In-loop Inv-loop μ-loop → tie.Start Inv-loop μ-loop
+start c = c .before .before .before .before .before
+
+abbrev read : tie.In-loop Inv-loop μ-loop → ℕ → Outcome ℕ
+read c = let a = start c .args in timesIn (a .t2) (a .s .now)
+
 abbrev goal : tie.In-loop Inv-loop μ-loop → ℕ
 goal c = c .before .before .before .node-of .result
 
@@ -59,82 +66,81 @@ abbrev node : tie.In-loop Inv-loop μ-loop → ℕ
 node c = goal c / 2 ^ (c .before .loop .below - 1)
 
 -- it is on the way to `goal`
-on-way : (c : tie.In-loop Inv-loop μ-loop) → (2 ^ c .before .loop .depth ≤ node c) × (node c < 2 * 2 ^ c .before .loop .depth) × (node c ≤ c .before .before .before .before .before .args .t2 .pins)
-on-way c =
+opens : (c : tie.In-loop Inv-loop μ-loop) → let a = start c .args in Opens (a .t2) (a .s .now) [] (c .before .loop .depth) (node c)
+opens c =
     let l = c .before .loop in
     let g = c .before .before .before .node-of .ensures in
     let d = first-digits (goal c) (l .depth) (l .below - 1) (g .0) (omega (arith, l .inv .0)) in
-    (d .0, d .1, omega (arith, g .1, shr-le (goal c) (l .below - 1)))
+    record { fits = start c .pre .0; marks = marks-zero _ _ 0; low = d .0; high = d .1; among = omega (arith, g .1, shr-le (goal c) (l .below - 1)) }
 
 -- its level lies in the bytes
-level : (c : tie.In-loop Inv-loop μ-loop) → let a = c .before .before .before .before .before .args in Level (a .t2) (a .s .now) (c .before .loop .depth)
-level c = level-fits (c .before .before .before .before .before .pre .0) (on-way c .0) (on-way c .2)
+level : (c : tie.In-loop Inv-loop μ-loop) → let a = start c .args in Level (a .t2) (a .s .now) (c .before .loop .depth)
+level c = level-fits (start c .pre .0) (opens c .low) (opens c .among)
+
+abbrev turn : tie.After-open-node Inv-loop μ-loop → tie.In-loop Inv-loop μ-loop
+turn c = c .before .before .before .before .before
 
 -- its time is what is told of it
-time-told : (c : tie.After-open-node Inv-loop μ-loop) → let a = c .before .before .before .before .before .before .before .before .before .before .args in timesIn (a .t2) (a .s .now) (node (c .before .before .before .before .before)) ≡ timeTold (node (c .before .before .before .before .before)) (c .open-node .result)
+time-told : (c : tie.After-open-node Inv-loop μ-loop) → read (turn c) (node (turn c)) ≡ timeTold (node (turn c)) (c .open-node .result)
 time-told c =
-    let a = c .before .before .before .before .before .before .before .before .before .before .args in
-    let l = c .before .before .before .before .before .before .loop in
-    let i = c .before .before .before .before .before in
+    let i = turn c in
+    let a = start i .args in
+    let l = i .before .loop in
     let e : l .below - 1 + 1 ≡ l .below = omega arith in
     let half : node i / 2 ≡ goal i / 2 ^ l .below = shr-shr (goal i) (l .below - 1) 1 ∙ rw e in
-    time-step (fetchedAt (a .t2) (a .s .now)) (node i) (omega (arith, on-way i, pow-pos (l .depth))) ∙ rw (half, l .inv .2, c .open-node .ensures .0)
+    time-step (fetchedAt (a .t2) (a .s .now)) (node i) (omega (arith, opens i .low, pow-pos (l .depth))) ∙ rw (half, l .inv .2, c .open-node .ensures .time)
 
-time-is : (c : tie.Else1 Inv-loop μ-loop) → let a = c .before .before .before .before .before .before .before .before .before .before .before .before .args in timesIn (a .t2) (a .s .now) (node (c .before .before .before .before .before .before .before)) ≡ gives (c .before .before .open-node .result)
-time-is c = time-told (c .before .before) ∙ told-time (node (c .before .before .before .before .before .before .before)) (c .before .before .open-node .result) (omega arith)
+time-is : (c : tie.Else1 Inv-loop μ-loop) → let told = c .before .before in read (turn told) (node (turn told)) ≡ gives (told .open-node .result)
+time-is c = let told = c .before .before in time-told told ∙ told-time (node (turn told)) (told .open-node .result) (omega arith)
 
 -- what is given in the end
 abbrev answer : tie.In-loop Inv-loop μ-loop → Found
-answer c = let a = c .before .before .before .before .before .args in found (known (timesIn (a .t2) (a .s .now) (goal c))) (height (goal c))
+answer c = found (known (read c (goal c))) (height (goal c))
 
-on : (c : tie.In-loop Inv-loop μ-loop) → let a = c .before .before .before .before .before .args in let read = timesIn (a .t2) (a .s .now) in
-    met read (node c ∷ downTo (goal c) (c .before .loop .below - 1)) (answer c) ≡ accessAnswer (a .t2 .pins) read (a .i)
-on c =
-    let a = c .before .before .before .before .before .args in
-    sym (ap (λ (vs : List ℕ). met (timesIn (a .t2) (a .s .now)) vs (answer c)) (downTo-on (goal c) (c .before .loop .below) (omega arith))) ∙ c .before .loop .inv .3
+on : (c : tie.In-loop Inv-loop μ-loop) → let a = start c .args in
+    met (read c) (node c ∷ downTo (goal c) (c .before .loop .below - 1)) (answer c) ≡ accessAnswer (a .t2 .pins) (read c) (a .i)
+on c = sym (ap (λ (vs : List ℕ). met (read c) vs (answer c)) (downTo-on (goal c) (c .before .loop .below) (omega arith))) ∙ c .before .loop .inv .3
 
 sub-below : tie.Need-sub-below Inv-loop μ-loop
 sub-below c = search needs
 
 shr-v : tie.Need-shr-v Inv-loop μ-loop
-shr-v c = omega (arith, c .before .loop .inv .0, height-mono (goal c) (c .before .before .before .before .before .args .t2 .pins) (c .before .before .before .node-of .ensures .1), c .before .before .before .before .before .pre .0 .height-fits)
+shr-v c = omega (arith, c .before .loop .inv .0, height-mono (goal c) (start c .args .t2 .pins) (c .before .before .before .node-of .ensures .1), start c .pre .0 .height-fits)
 
-add-nodes : tie.Need-add-nodes Inv-loop μ-loop
-add-nodes c = omega (arith, level c)
+add-opened : tie.Need-add-opened Inv-loop μ-loop
+add-opened c = omega (arith, level c)
 
 slice-aggregate-open-node : tie.Need-slice-aggregate-open-node Inv-loop μ-loop
 slice-aggregate-open-node c = search needs
 
 open-node-requires : tie.Need-open-node-requires Inv-loop μ-loop
-open-node-requires c κs = ((c .before .before .before .before .before .before .before .before .before .pre .0, marks-zero _ _ 0), on-way (c .before .before .before .before))
+open-node-requires c κs = opens (c .before .before .before .before)
 
 refusal-of-requires : tie.Need-refusal-of-requires Inv-loop μ-loop
 refusal-of-requires c κs = search needs
 
 returns : tie.Need-returns Inv-loop μ-loop
 returns c =
-    let i = c .before .before .before .before .before .before .before .before in
-    let a = c .before .before .before .before .before .before .before .before .before .before .before .before .before .args in
-    let e = time-told (c .before .before .before) ∙ sym (c .refusal-of .ensures) in
-    sym (met-refused (timesIn (a .t2) (a .s .now)) (answer i) (node i) _ e) ∙ on i
+    let told = c .before .before .before in
+    let i = turn told in
+    sym (met-refused (read i) (answer i) (node i) _ (time-told told ∙ sym (c .refusal-of .ensures))) ∙ on i
 
 cast-time : tie.Need-cast-time Inv-loop μ-loop
 cast-time c = search needs
 
 add-depth : tie.Need-add-depth Inv-loop μ-loop
-add-depth c = omega (arith, level (c .before .before .before .before .before .before .before))
+add-depth c = omega (arith, level (turn (c .before .before)))
 
 loop-less : tie.Need-loop-less Inv-loop μ-loop
 loop-less c = omega arith
 
 loop-again : tie.Need-loop-again Inv-loop μ-loop
 loop-again c =
-    let i = c .before .before .before .before .before .before .before in
-    let a = c .before .before .before .before .before .before .before .before .before .before .before .before .args in (
-      omega (arith, c .before .before .before .before .before .before .before .before .loop .inv .0),
+    let i = turn (c .before .before) in (
+      omega (arith, i .before .loop .inv .0),
       omega arith,
       time-is c,
-      sym (met-fine (timesIn (a .t2) (a .s .now)) (answer i) (node i) _ (time-is c)) ∙ on i,
+      sym (met-fine (read i) (answer i) (node i) _ (time-is c)) ∙ on i,
       omega arith,
     )
 
@@ -163,7 +169,7 @@ access-spec =
     loop-holds
     sub-below
     shr-v
-    add-nodes
+    add-opened
     slice-aggregate-open-node
     open-node-requires
     refusal-of-requires

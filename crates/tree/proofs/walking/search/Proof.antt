@@ -16,7 +16,7 @@ use Rattle.tree.proofs.Stretches.{stretch-root, stretch-child}
 use Rattle.tree.proofs.Walks.{child-bounds, parent-of}
 use Rattle.tree.proofs.LevelMarks.{marks-zero}
 use Rattle.tree.proofs.NodeFetches.{Level, pins-bound}
-use Rattle.tree.proofs.Steps.{stands-root, stands-end, stands-level, stands-told, stands-time, stands-child, side-ends, target-end, target-refused, target-step}
+use Rattle.tree.proofs.Steps.{stands-root, stands-end, stands-level, stands-opens, stands-told, stands-time, stands-child, side-ends, target-end, target-refused, target-step}
 use Rattle.tree.proofs.walking.search.Statement.{statement}
 use Rattle.tree.proofs.walking.search.Tie as tie
 
@@ -38,13 +38,19 @@ loop-holds c =
     let a = c .before .args in
     rw (stretch-root (a .t2 .pins)) (stands-root (a .t2) (a .s .now), refl, ([], sym (zero-add (a .t2 .pins)), refl), omega arith)
 
+abbrev start : tie.In-loop Inv-loop μ-loop → tie.Start Inv-loop μ-loop
+start c = c .before .before .before
+
 -- the node's level lies in the bytes
-level : (c : tie.In-loop Inv-loop μ-loop) → let a = c .before .before .before .args in Level (a .t2) (a .s .now) (c .before .loop .depth)
-level c = stands-level (c .before .loop .inv .0) (c .before .before .before .pre) (omega arith)
+level : (c : tie.In-loop Inv-loop μ-loop) → let a = start c .args in Level (a .t2) (a .s .now) (c .before .loop .depth)
+level c = stands-level (c .before .loop .inv .0) (start c .pre) (omega arith)
+
+abbrev turn : tie.Else1 Inv-loop μ-loop → tie.In-loop Inv-loop μ-loop
+turn c = c .before .before .before .before .before .before .before
 
 -- its time
-time-is : (c : tie.Else1 Inv-loop μ-loop) → let a = c .before .before .before .before .before .before .before .before .before .before .args in timesIn (a .t2) (a .s .now) (c .before .before .before .before .before .before .before .before .loop .v) ≡ gives (c .before .before .open-node .result)
-time-is c = stands-time (c .before .before .before .before .before .before .before .before .loop .inv .0) (c .before .before .open-node .ensures .0) (omega arith)
+time-is : (c : tie.Else1 Inv-loop μ-loop) → let a = start (turn c) .args in timesIn (a .t2) (a .s .now) (turn c .before .loop .v) ≡ gives (c .before .before .open-node .result)
+time-is c = stands-time (turn c .before .loop .inv .0) (c .before .before .open-node .ensures .time) (omega arith)
 
 add-nodes : tie.Need-add-nodes Inv-loop μ-loop
 add-nodes c = omega (arith, level c)
@@ -53,39 +59,39 @@ slice-aggregate-open-node : tie.Need-slice-aggregate-open-node Inv-loop μ-loop
 slice-aggregate-open-node c = search needs
 
 open-node-requires : tie.Need-open-node-requires Inv-loop μ-loop
-open-node-requires c κs =
-    let w = c .before .before .before .before .before .loop .inv .0 in
-    ((c .before .before .before .before .before .before .before .pre, marks-zero _ _ 0), (w .low, w .high, omega arith))
+open-node-requires c κs = let i = c .before .before .before .before in stands-opens (i .before .loop .inv .0) (start i .pre) (marks-zero _ _ 0) (omega arith)
 
 refusal-of-requires : tie.Need-refusal-of-requires Inv-loop μ-loop
 refusal-of-requires c κs = search needs
 
 returns : tie.Need-returns Inv-loop μ-loop
 returns c =
-    let a = c .before .before .before .before .before .before .before .before .before .before .before .args in
-    let l = c .before .before .before .before .before .before .before .before .before .loop in
-    let e = stands-told (l .inv .0) (c .before .before .before .open-node .result) (c .before .before .before .open-node .ensures .0) ∙ sym (c .refusal-of .ensures) in
+    let told = c .before .before .before in
+    let i = told .before .before .before .before .before in
+    let a = start i .args in
+    let l = i .before .loop in
+    let e = stands-told (l .inv .0) (told .open-node .result) (told .open-node .ensures .time) ∙ sym (c .refusal-of .ensures) in
     sym (target-refused (a .t2 .pins) (timesIn (a .t2) (a .s .now)) (a .target) (l .inv .2 .0) (l .nodes) (l .v) _ _ (l .inv .0 .one) (omega arith) e) ∙ l .inv .2 .2
 
 cast-time : tie.Need-cast-time Inv-loop μ-loop
 cast-time c = search needs
 
 child-of-requires : tie.Need-child-of-requires Inv-loop μ-loop
-child-of-requires c κs = omega (arith, level (c .before .before .before .before .before .before .before))
+child-of-requires c κs = omega (arith, level (turn c))
 
 add-depth : tie.Need-add-depth Inv-loop μ-loop
-add-depth c = omega (arith, level (c .before .before .before .before .before .before .before .before))
+add-depth c = omega (arith, level (turn (c .before)))
 
 loop-less : tie.Need-loop-less Inv-loop μ-loop
 loop-less c =
-    let l = c .before .before .before .before .before .before .before .before .before .loop in
-    let t = c .before .before .before .before .before .before .before .before .before .before .before .args .target in
-    rw (c .child-of .ensures) (omega (arith, child-bounds (ltb (c .before .before .before .open-node .result) t) (l .v), l .inv .0 .one))
+    let i = turn (c .before) in
+    let l = i .before .loop in
+    rw (c .child-of .ensures) (omega (arith, child-bounds (ltb (c .before .before .before .open-node .result) (start i .args .target)) (l .v), l .inv .0 .one))
 
 loop-again : tie.Need-loop-again Inv-loop μ-loop
 loop-again c =
-    let a = c .before .before .before .before .before .before .before .before .before .before .before .args in
-    let l = c .before .before .before .before .before .before .before .before .before .loop in
+    let a = start (turn (c .before)) .args in
+    let l = turn (c .before) .before .loop in
     let x = c .before .before .before .open-node .result in
     let t = a .target in
     let n = a .t2 .pins in
