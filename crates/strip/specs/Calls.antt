@@ -29,7 +29,7 @@ use Rattle.strip.specs.declared.walker.Stepped.{Stepped}
 use Rattle.strip.specs.declared.walker.Stepped.the-variants as step
 use Rattle.strip.specs.declared.walker.Walker.{Walker}
 use Rattle.strip.specs.Lists.{firstLower}
-use Rattle.strip.specs.Refusals.{refusalNumber, carried}
+use Rattle.strip.specs.Refusals.{refusal}
 use Rattle.strip.specs.Layout.{maxPins}
 use Rattle.strip.specs.Image.{image}
 use Rattle.strip.specs.Opening.{opening}
@@ -68,7 +68,7 @@ packOutput xs out = written (packOf xs (length out)) (image xs) out
 -- the answer of the code
 abbrev pub packed : Packed → Outcome ℕ
 packed (packing.Length n) = gives n
-packed (packing.Refused r) = refuses (refusalNumber r) (carried r)
+packed (packing.Refused r) = refusal r
 
 -- ---- access, search, up-to
 
@@ -99,7 +99,7 @@ upToOf s t = after (opening s) (upToIn s t)
 -- of access, search and up-to
 abbrev pub walked : Walked → Outcome Found
 walked (walking.Found f) = gives f
-walked (walking.Refused r) = refuses (refusalNumber r) (carried r)
+walked (walking.Refused r) = refusal r
 
 -- ---- sweep
 
@@ -125,7 +125,7 @@ sweepOutput s ts answers = follow (λ r c. answers) (opening s) (sweepOver s ts 
 
 abbrev pub swept : Swept → Outcome ℕ
 swept (sweeping.Nodes k) = gives k
-swept (sweeping.Refused r) = refuses (refusalNumber r) (carried r)
+swept (sweeping.Refused r) = refusal r
 
 -- ---- check and unpack
 
@@ -182,7 +182,7 @@ unpackOutput s out = written (unpackOf s (length out)) (plainList s) out
 -- of check and of unpack
 abbrev pub checked : Checked → Outcome ℕ
 checked (check.Pins n) = gives n
-checked (check.Refused r) = refuses (refusalNumber r) (carried r)
+checked (check.Refused r) = refusal r
 
 -- ---- repeat
 
@@ -203,7 +203,7 @@ repeatOf s r = after (opening s) (λ levels. repeatFrom (accesses levels s) r (l
 abbrev pub repeated : Repeated → Outcome (Option ℕ)
 repeated (repeat.First i) = gives (some i)
 repeated repeat.None = gives none
-repeated (repeat.Refused r) = refuses (refusalNumber r) (carried r)
+repeated (repeat.Refused r) = refusal r
 
 -- ---- pin walker
 
@@ -228,7 +228,7 @@ nextOf s i = movedBy (stepOf s i) i
 abbrev pub stepped : Stepped → Outcome (Option Found)
 stepped (step.Found f) = gives (some f)
 stepped step.End = gives none
-stepped (step.Refused r) = refuses (refusalNumber r) (carried r)
+stepped (step.Refused r) = refusal r
 
 -- what a step of a walker says
 abbrev pub walkerStep : Walker → Outcome (Option Found)

@@ -10,14 +10,14 @@ use Rattle.strip.specs.declared.opening.Status.the-variants as status
 use Rattle.strip.specs.declared.opening.Header.{Header}
 use Rattle.strip.specs.declared.opening.Header.the-variants as header
 use Rattle.strip.specs.declared.opening.Opening.{Opening}
-use Rattle.tree.specs.Outcomes.{Outcome, gives, refuses}
-use Rattle.strip.specs.Refusals.{refusalNumber, carried}
+use Rattle.tree.specs.Outcomes.{Outcome, gives}
+use Rattle.strip.specs.Refusals.{refusal}
 use Rattle.strip.specs.Layout.{pinsOf, partsStart}
 use Rattle.strip.specs.Opening.{opening}
 
 abbrev pub statusOf : {A : Type 0} → Status → A → Outcome A
 statusOf status.Open a = gives a
-statusOf (status.Refused r) a = refuses (refusalNumber r) (carried r)
+statusOf (status.Refused r) a = refusal r
 
 abbrev pub opened : Opening → Outcome Levels
 opened r = statusOf (r .status) (r .levels)
@@ -33,7 +33,7 @@ FitsOpen (status.Refused r) levels s = Unit {0}
 
 abbrev pub headerOutcome : Header → Outcome ℕ
 headerOutcome (header.Pins n) = gives n
-headerOutcome (header.Refused r) = refuses (refusalNumber r) (carried r)
+headerOutcome (header.Refused r) = refusal r
 
 -- the pin count of a header that lies whole in the strip
 abbrev pub HeaderFits : Header → List ℕ → Type 0

@@ -13,7 +13,7 @@ use Rattle.strip.specs.declared.reading.Asked.{Asked}
 use Rattle.strip.specs.declared.reading.Asked.the-variants as asking
 use Rattle.strip.specs.declared.reading.Told.{Told}
 use Rattle.strip.specs.declared.reading.Told.the-variants as telling
-use Rattle.strip.specs.Refusals.{refusalNumber, carried}
+use Rattle.strip.specs.Refusals.{refusal}
 use Rattle.strip.specs.Calls.{roomFor, written, listIn, checkIn, repeatFrom}
 
 -- unpack's answer for a strip that is open
@@ -40,7 +40,7 @@ gapOr r xs end = cond (ltb (firstNear r xs) (length xs)) (gapAt xs (firstNear r 
 abbrev pub told : Told → Outcome (Option ℕ)
 told (telling.Number n) = gives (some n)
 told telling.None = gives none
-told (telling.Refused r) = refuses (refusalNumber r) (carried r)
+told (telling.Refused r) = refusal r
 
 -- a pin count, as it is told
 abbrev pub counted : Outcome ℕ → Outcome (Option ℕ)

@@ -1,5 +1,6 @@
 -- 01's number for each refusal of the code, and what it carries.
 use Prim.Native.Nat.{ℕ}
+use Rattle.tree.specs.Outcomes.{Outcome, refuses}
 use Rattle.strip.specs.declared.refusals.Refusal.{Refusal}
 use Rattle.strip.specs.declared.refusals.Refusal.the-variants.{Empty, TooMany, ListFalls, Short, Cut, Mark, Version, Code, Fetch, Time, TimesFall, Image, Length, Position, Answers, TargetsFall}
 
@@ -38,3 +39,6 @@ carried Length = 0
 carried Position = 0
 carried Answers = 0
 carried (TargetsFall i) = i
+
+abbrev pub refusal : {A : Type 0} → Refusal → Outcome A
+refusal r = refuses (refusalNumber r) (carried r)

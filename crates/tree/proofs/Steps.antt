@@ -18,7 +18,7 @@ use Rattle.tree.specs.declared.walking.Found.{Found}
 use Rattle.tree.specs.Outcomes.{Outcome, gives, refuses, known, verdict}
 use Rattle.tree.specs.Times.{timeTold, under, timesIn}
 use Rattle.tree.specs.Walks.{found, met, towardFrom, toward, lastOf, accessAnswer, isBelow, searchNodes, remember, position, keptFrom, targetFrom}
-use Rattle.tree.specs.Standing.{Stands, Opens, accessFrom}
+use Rattle.tree.specs.Standing.{Stands, Openable, accessFrom}
 use Rattle.tree.proofs.Heights.{height-is}
 use Rattle.tree.proofs.Stretches.{stretch-root, stretch-child, side-in, pins-of-node, node-of-pins, no-pins, place-some, rank-is}
 use Rattle.tree.proofs.NodeTimes.{time-above, time-step, told-time}
@@ -66,7 +66,7 @@ module _ {levels : Levels} {s : List ℕ} {v depth : ℕ} {here : Stretch} {abov
   pub stands-level : Fits levels s → v ≤ levels .pins → Level levels s depth
   stands-level f k = level-fits f (w .low) k
 
-  pub stands-opens : Fits levels s → {marks : List ℕ} → LevelMarks (levels .ends) s marks → v ≤ levels .pins → Opens levels s marks depth v
+  pub stands-opens : Fits levels s → {marks : List ℕ} → LevelMarks (levels .ends) s marks → v ≤ levels .pins → Openable levels s marks depth v
   stands-opens f m k = record { fits = f; marks = m; low = w .low; high = w .high; among = k }
 
   -- what opening the node tells is its time

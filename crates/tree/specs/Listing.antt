@@ -7,8 +7,8 @@ use Rattle.tree.specs.declared.listing.Listed.{Listed}
 use Rattle.tree.specs.declared.listing.Listed.the-variants as listing
 use Rattle.tree.specs.declared.nodes.Levels.{Levels}
 use Rattle.tree.specs.declared.walking.Found.{Found}
-use Rattle.tree.specs.Outcomes.{Outcome, gives, refuses, follow, after, Test}
-use Rattle.tree.specs.Times.{numberOf, nodeOf, timesIn}
+use Rattle.tree.specs.Outcomes.{Outcome, gives, follow, after, Test}
+use Rattle.tree.specs.Times.{refusal, timesIn}
 use Rattle.tree.specs.Walks.{accessAnswer}
 
 -- what access answers at each position, by the parts of the levels
@@ -36,7 +36,7 @@ stopAll levels s = stopFrom (accesses levels s) (levels .pins) 0
 -- the answer of the code
 abbrev pub listed : Listed → Test
 listed listing.All = gives tt
-listed (listing.Refused i r) = refuses (numberOf r) (nodeOf r)
+listed (listing.Refused i r) = refusal r
 
 -- the position where it ends, of those before `last`
 abbrev pub endOf : Listed → ℕ → ℕ

@@ -11,8 +11,8 @@ use Rattle.tree.specs.declared.targets.Ending.{Ending}
 use Rattle.tree.specs.declared.targets.Ending.the-variants as ending
 use Rattle.tree.specs.Shape.{height, childOf, stretch}
 use Rattle.tree.specs.declared.walking.Found.{Found}
-use Rattle.tree.specs.Outcomes.{Outcome, gives, refuses}
-use Rattle.tree.specs.Times.{timesIn, numberOf, nodeOf}
+use Rattle.tree.specs.Outcomes.{Outcome, gives}
+use Rattle.tree.specs.Times.{refusal, timesIn}
 use Rattle.tree.specs.Walks.{position, keptFrom, targetFrom}
 use Rattle.tree.specs.Standing.{Stands}
 
@@ -72,4 +72,4 @@ pub record Comes (levels : Levels) (s : List ℕ) (t : ℕ) (nodes₀ : List ℕ
 -- it ends at a missing child, or is refused
 abbrev pub Leaves : Levels → List ℕ → ℕ → List ℕ → Progress → List ℕ → List ℕ → Ending → Type 0
 Leaves levels s t nodes₀ from nodes times (ending.At p) = Comes levels s t nodes₀ from nodes times p × (levels .pins < p .v)
-Leaves levels s t nodes₀ from nodes times (ending.Refused r) = answerOn levels s t nodes₀ from ≡ refuses (numberOf r) (nodeOf r)
+Leaves levels s t nodes₀ from nodes times (ending.Refused r) = answerOn levels s t nodes₀ from ≡ refusal r

@@ -28,7 +28,7 @@ pub record Stands (levels : Levels) (s : List ℕ) (v depth : ℕ) (here : Stret
   pub parent : timesIn levels s (v / 2) ≡ gives above
 
 -- node v, `depth` levels down, can be opened, with these marks
-pub record Opens (levels : Levels) (s ms : List ℕ) (depth v : ℕ) : Type 0 where
+pub record Openable (levels : Levels) (s ms : List ℕ) (depth v : ℕ) : Type 0 where
   pub fits : Fits levels s
   pub marks : LevelMarks (levels .ends) s ms
   pub low : 2 ^ depth ≤ v

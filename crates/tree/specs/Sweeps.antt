@@ -7,8 +7,8 @@ use lib.ListN.{length}
 use Rattle.tree.specs.declared.sweeping.Swept.{Swept}
 use Rattle.tree.specs.declared.sweeping.Swept.the-variants as sweeping
 use Rattle.tree.specs.Shape.{childOf}
-use Rattle.tree.specs.Outcomes.{Outcome, gives, refuses, follow}
-use Rattle.tree.specs.Times.{numberOf, nodeOf}
+use Rattle.tree.specs.Outcomes.{Outcome, gives, follow}
+use Rattle.tree.specs.Times.{refusal}
 use Rattle.tree.specs.Walks.{met, isBelow, searchNodes, position, keptFrom, path}
 
 -- the nodes still remembered, and the node to go on from
@@ -63,7 +63,7 @@ sweepPositions n time ts = positions n time (legs n time ts)
 -- the answer of the code
 abbrev pub swept : Swept → Outcome ℕ
 swept (sweeping.Nodes k) = gives k
-swept (sweeping.Refused r) = refuses (numberOf r) (nodeOf r)
+swept (sweeping.Refused r) = refusal r
 
 -- ---- different nodes
 

@@ -20,6 +20,9 @@ abbrev pub nodeOf : Refusal → ℕ
 nodeOf (refusals.Fetch v) = v
 nodeOf (refusals.Time v) = v
 
+abbrev pub refusal : {A : Type 0} → Refusal → Outcome A
+refusal r = refuses (numberOf r) (nodeOf r)
+
 -- Node v's time by its parent's and by what is fetched for it. A fetch that fails is refusal 9, a time below 0 or above
 -- 4,294,967,295 refusal 10.
 abbrev pub under : ℕ → Outcome ℕ → Fetched → Outcome ℕ

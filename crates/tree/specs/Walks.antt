@@ -9,8 +9,8 @@ use Rattle.tree.specs.declared.walking.Walked.{Walked}
 use Rattle.tree.specs.declared.walking.Walked.the-variants as walking
 use Rattle.tree.specs.Shape.{height, childOf, rank}
 use Rattle.tree.specs.Stored.{timeOf}
-use Rattle.tree.specs.Outcomes.{Outcome, gives, refuses, known, verdict}
-use Rattle.tree.specs.Times.{numberOf, nodeOf}
+use Rattle.tree.specs.Outcomes.{Outcome, gives, known, verdict}
+use Rattle.tree.specs.Times.{refusal}
 
 -- A walk asks two things of a node: does it end here, and if not, does it leave by the right side? `stop v` and `past v` are
 -- the answers for node v. These are the nodes that it opens from node v on, until no child, f at most.
@@ -35,7 +35,7 @@ found x k = record { value = x; nodes = k }
 -- the answer of the code
 abbrev pub walked : Walked → Outcome Found
 walked (walking.Found f) = gives f
-walked (walking.Refused r) = refuses (numberOf r) (nodeOf r)
+walked (walking.Refused r) = refusal r
 
 -- ---- access
 

@@ -7,9 +7,9 @@ ghost use mathlib.Core.Path.{_≡_};
 ghost use Prim.Native.Nat.{_^_, _≤_};
 ghost use Rattle.codes.specs.Fetch.{value};
 ghost use Rattle.tree.specs.Levels.{levelsOf};
-ghost use Rattle.tree.specs.Outcomes.{gives, refuses};
-ghost use Rattle.tree.specs.Times.{numberOf, nodeOf, under, timeTold};
-ghost use Rattle.tree.specs.Standing.{Opens, Tells};
+ghost use Rattle.tree.specs.Outcomes.{gives};
+ghost use Rattle.tree.specs.Times.{refusal, under, timeTold};
+ghost use Rattle.tree.specs.Standing.{Openable, Tells};
 
 // The pin count, each level's code byte and each level's end. Entry 0 of the ends is where the first level starts; so the part
 // of the level below d others is the strip's bytes from entry d up to entry d + 1.
@@ -39,7 +39,7 @@ const OUTSIDE: u64 = 8589934592;
 // Why a node has no time.
 pub(crate) fn refusal_of(v: usize, told: u64) -> Refusal
     requires { ⌜ 2 ^ 32 ≤ told ⌝ }
-    ensures { λ r. ⌜ refuses (numberOf r) (nodeOf r) ≡ timeTold v told ⌝ }
+    ensures { λ r. ⌜ refusal r ≡ timeTold v told ⌝ }
 {
     if told < OUTSIDE {
         Refusal::Time(v)
@@ -77,7 +77,7 @@ pub(crate) fn open_full<'a>(
     v: usize,
     above: u32,
 ) -> u64
-    requires { ⌜ Opens (levelsOf n (now codes) (now ends)) (now s) (now marks) depth v ⌝ }
+    requires { ⌜ Openable (levelsOf n (now codes) (now ends)) (now s) (now marks) depth v ⌝ }
     ensures { λ r. ⌜ Tells (levelsOf n (now (codes .entry)) (now (ends .entry))) (now (s .entry)) (now (marks .exit)) above v r ⌝ }
 {
     let start = ends[depth];
@@ -107,7 +107,7 @@ pub(crate) fn open_node<'a>(
     v: usize,
     above: u32,
 ) -> u64
-    requires { ⌜ Opens (levelsOf n (now codes) (now ends)) (now s) (now marks) depth v ⌝ }
+    requires { ⌜ Openable (levelsOf n (now codes) (now ends)) (now s) (now marks) depth v ⌝ }
     ensures { λ r. ⌜ Tells (levelsOf n (now (codes .entry)) (now (ends .entry))) (now (s .entry)) (now (marks .exit)) above v r ⌝ }
 {
     let start = ends[depth];

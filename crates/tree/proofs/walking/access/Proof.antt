@@ -12,7 +12,7 @@ use Rattle.tree.specs.declared.walking.Found.{Found}
 use Rattle.tree.specs.Outcomes.{Outcome, gives, known, verdict}
 use Rattle.tree.specs.Times.{timeTold, timesIn}
 use Rattle.tree.specs.Walks.{found, met, accessAnswer}
-use Rattle.tree.specs.Standing.{Opens}
+use Rattle.tree.specs.Standing.{Openable}
 use Rattle.tree.proofs.Heights.{height-bound, height-mono, first-digits}
 use Rattle.tree.proofs.NodeTimes.{time-above, time-step, told-time}
 use Rattle.tree.proofs.LevelMarks.{marks-zero}
@@ -66,7 +66,7 @@ abbrev node : tie.In-loop Inv-loop μ-loop → ℕ
 node c = goal c / 2 ^ (c .before .loop .below - 1)
 
 -- it is on the way to `goal`
-opens : (c : tie.In-loop Inv-loop μ-loop) → let a = start c .args in Opens (a .t2) (a .s .now) [] (c .before .loop .depth) (node c)
+opens : (c : tie.In-loop Inv-loop μ-loop) → let a = start c .args in Openable (a .t2) (a .s .now) [] (c .before .loop .depth) (node c)
 opens c =
     let l = c .before .loop in
     let g = c .before .before .before .node-of .ensures in
