@@ -8,11 +8,11 @@ use Prim.Native.Nat.{ℕ, zero, suc, _+_, _*_, _≤_, _<_, min, max}
 use native.Mathlib.Nat.{le-refl}
 use native.Mathlib.Decide.{ℕ-discrete}
 use native.Mathlib.Omega.{arith}
-use lib.Dec.{eqb}
+use lib.Dec.{eqb, ltb}
 use lib.ListN.{length}
-use borrow.Author.Tests.{eq-eqb, ne-eqb}
+use borrow.Author.Tests.{lt-ltb, eq-eqb, ne-eqb}
 use Rattle.codes.specs.Bits.{sum}
-use Rattle.tree.specs.Sweeps.{occurrences, contains, sumTo}
+use Rattle.tree.specs.Sweeps.{occurrences, sumTo}
 use Rattle.tree.proofs.Walks.{Among}
 
 -- 1 where a test is passed, else 0
@@ -30,17 +30,13 @@ unfolding occurrences
 occurrences-append v [] ws = omega arith
 occurrences-append v (u ∷ us) ws = omega (arith, occurrences-append v us ws)
 
-pub contains-occurrences : (v : ℕ) (us : List ℕ) (b : Bool) → bit (contains v us || b) ≡ max (min 1 (occurrences v us)) (bit b)
-unfolding contains occurrences
-contains-occurrences v [] true = refl
-contains-occurrences v [] false = refl
-contains-occurrences v (u ∷ us) b = go (eqb v u) b (contains-occurrences v us b)
+pub bit-or : (n : ℕ) (b : Bool) → bit (ltb 0 n || b) ≡ max (min 1 n) (bit b)
+bit-or zero b = omega arith
+bit-or (suc n) b = rw (lt-ltb 0 (suc n) (omega arith)) (go b)
   where
-    go : (x y : Bool) → bit (contains v us || y) ≡ max (min 1 (occurrences v us)) (bit y)
-        → bit ((x || contains v us) || y) ≡ max (min 1 (bit x + occurrences v us)) (bit y)
-    go true true e = omega arith
-    go true false e = omega arith
-    go false y e = rw e (omega arith)
+    go : (b : Bool) → 1 ≡ max (min 1 (suc n)) (bit b)
+    go true = omega arith
+    go false = omega arith
 
 -- ---- sums
 

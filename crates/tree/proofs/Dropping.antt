@@ -13,11 +13,11 @@ use Rattle.tree.specs.declared.nodes.Levels.{Levels}
 use Rattle.tree.specs.declared.targets.Progress.{Progress}
 use Rattle.tree.specs.Shape.{childOf, stretch}
 use Rattle.tree.specs.declared.walking.Found.{Found}
-use Rattle.tree.specs.Outcomes.{Outcome, gives, refuses, known}
+use Rattle.tree.specs.Outcomes.{Outcome, refuses, known}
 use Rattle.tree.specs.Times.{timesIn}
 use Rattle.tree.specs.Walks.{met, found, never, isBelow, position, targetFrom}
 use Rattle.tree.specs.Sweeps.{dropped, Leg, leg, legsFrom, opened, positions}
-use Rattle.tree.specs.Remembering.{entries, leftBy, GoesOn, resumedAt, answerOn, keptOn, Comes}
+use Rattle.tree.specs.Remembering.{entries, leftBy, GoesOn, resumedAt, answerOn, Comes}
 use Rattle.tree.proofs.Stretches.{stretch-child}
 use Rattle.tree.proofs.Steps.{stands-place, stands-rank, stands-end, kept-end, target-end}
 use Rattle.tree.proofs.Walks.{walk-out, met-append, met-other, met-gives}

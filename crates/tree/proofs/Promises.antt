@@ -1,14 +1,11 @@
 -- The promises of specs/Promises.
 use mathlib.Core.Path.{_≡_, sym, ap, subst, _∙_}
-use mathlib.Core.List.{List}
 use Prim.Native.Nat.{ℕ, suc, _-_, _^_, _≤_, min}
 use native.Mathlib.Nat.{le-refl}
 use native.Mathlib.Omega.{arith}
 use lib.Dec.{eqb, ltb}
-use lib.ListN.{length}
 use lib.Pow.{pow-pos}
 use Rattle.codes.specs.Decode.{all}
-use Rattle.tree.specs.declared.nodes.Levels.{Levels}
 use Rattle.tree.specs.Shape.{rank}
 use Rattle.tree.specs.Levels.{levelOf, fetchedAt}
 use Rattle.tree.specs.declared.walking.Found.{Found}

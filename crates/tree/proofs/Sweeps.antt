@@ -3,18 +3,16 @@ use mathlib.Core.Path.{_≡_, refl, sym, ap, ap₂, _∙_}
 use mathlib.Core.Bool.{Bool, true, false, cond}
 use mathlib.Core.List.{List, [], _∷_, map}
 use mathlib.Core.Logic.{inl, inr}
-use Prim.Native.Nat.{ℕ, zero, suc, _+_, _-_, _*_, _≤_, _<_, min, max}
+use Prim.Native.Nat.{ℕ, suc, _+_, _-_, _*_, _≤_, _<_, min, max}
 use native.Mathlib.Nat.{le-refl}
 use native.Mathlib.Decide.{decLt}
 use native.Mathlib.Omega.{arith}
 use lib.Dec.{T, eqb, ltb}
 use lib.ListN.{length}
-use borrow.Author.Tests.{lt-ltb, le-ltb}
 use Rattle.codes.specs.Bits.{sum}
 use Rattle.tree.specs.Shape.{height, childOf, rank}
 use Rattle.tree.specs.Lists.{ordered, smaller}
 use Rattle.tree.specs.Stored.{timeOf}
-use Rattle.tree.specs.declared.walking.Found.{Found}
 use Rattle.tree.specs.Outcomes.{Outcome, gives}
 use Rattle.tree.specs.Walks.{walk, never, isBelow, remember, position, keptFrom, path}
 use Rattle.tree.specs.Sweeps.{Dropped, dropped, Leg, leg, legsFrom, legs, opened, sweepNodes, sweepAnswer, positions, sweepPositions, occurrences, onPath, sumTo, overDifferent, different}
@@ -22,7 +20,7 @@ use Rattle.tree.proofs.Orders.{smaller-mono, ordered-head}
 use Rattle.tree.proofs.Walks.{walk-out, walk-length, Among, among-append, walk-among, met-none}
 use Rattle.tree.proofs.Inorder.{Tree, out, node, tree, tree-le}
 use Rattle.tree.proofs.Paths.{Cuts, cut-right, cut-left, walk-side, remember-side, cuts-below, search-path, search-cuts, search-position}
-use Rattle.tree.proofs.Counts.{bit, equal-cases, occurrences-append, contains-occurrences, sum-same, sum-le, sum-add, sum-none, count-le, sum-occurrences, length-occurrences}
+use Rattle.tree.proofs.Counts.{bit, equal-cases, occurrences-append, bit-or, sum-same, sum-le, sum-add, sum-none, count-le, sum-occurrences, length-occurrences}
 
 -- ---- how often a node stands in a walk
 
@@ -201,7 +199,7 @@ module _ (xs : List ℕ) where
 
   some-cons : (t : ℕ) (ts : List ℕ) (v : ℕ) → some (t ∷ ts) v ≡ max (min 1 (on t v)) (some ts v)
   unfolding some onPath on visits path
-  some-cons t ts v = contains-occurrences v (path xs t) (onPath xs ts v)
+  some-cons t ts v = bit-or (occurrences v (path xs t)) (onPath xs ts v)
 
   -- 1 where it is so and not on the path of t, else 0
   abbrev more : ℕ → List ℕ → ℕ → ℕ

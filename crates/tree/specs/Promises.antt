@@ -21,7 +21,7 @@ use Rattle.tree.specs.LevelMarks.{LevelMarks}
 use Rattle.tree.specs.declared.walking.Found.{Found}
 use Rattle.tree.specs.Outcomes.{Outcome, gives, refuses, after, verdict}
 use Rattle.tree.specs.Times.{timesIn}
-use Rattle.tree.specs.Listing.{accesses, timesFrom, stopFrom, timesAll, stopAll}
+use Rattle.tree.specs.Listing.{timesFrom, stopFrom, timesAll, stopAll}
 use Rattle.tree.specs.DecodedLevels.{decodedLevels, Decodes}
 use Rattle.tree.specs.Chosen.{allChosen}
 use Rattle.tree.specs.Walks.{walk, found, toward, accessAnswer, searchNodes, searchAnswer, path, fromRoot}

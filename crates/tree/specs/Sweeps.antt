@@ -2,7 +2,7 @@
 use mathlib.Core.Bool.{Bool, true, false, cond, _||_}
 use mathlib.Core.List.{List, [], _∷_, _++_}
 use Prim.Native.Nat.{ℕ, zero, suc, _+_}
-use lib.Dec.{eqb}
+use lib.Dec.{eqb, ltb}
 use lib.ListN.{length}
 use Rattle.tree.specs.declared.sweeping.Swept.{Swept}
 use Rattle.tree.specs.declared.sweeping.Swept.the-variants as sweeping
@@ -72,15 +72,10 @@ unfoldable pub occurrences : ℕ → List ℕ → ℕ
 occurrences v [] = 0
 occurrences v (u ∷ us) = cond (eqb v u) 1 0 + occurrences v us
 
--- node v is in a list
-unfoldable pub contains : ℕ → List ℕ → Bool
-contains v [] = false
-contains v (u ∷ us) = eqb v u || contains v us
-
 -- node v is on the path of one of the targets
 unfoldable pub onPath : List ℕ → List ℕ → ℕ → Bool
 onPath xs [] v = false
-onPath xs (t ∷ ts) v = contains v (path xs t) || onPath xs ts v
+onPath xs (t ∷ ts) v = ltb 0 (occurrences v (path xs t)) || onPath xs ts v
 
 -- the sum of f over the numbers 1 to k
 unfoldable pub sumTo : ℕ → (ℕ → ℕ) → ℕ
