@@ -34,7 +34,7 @@ use Rattle.strip.specs.Opening.{opening}
 use Rattle.strip.specs.Calls.{packOf, written, packOutput, searchOf, sweepOf, sweepOutput, swept, listIn, checkIn, checkOf, checked, plainList, unpackOf, unpackOutput, movedBy, stepOf, nextOf, walkerStep, walkerAfter, walkerAfterSteps}
 use Rattle.strip.specs.Promises.{Opens}
 use Rattle.strip.specs.Demands.{PacksTo, UnpacksTo, Accepted, CheckAccepts, CodeAccepts, Demand2, SweepsAs, CodeSweepsAs, Demand3, WalkerLists}
-use Rattle.codes.proofs.Lists.{same-lists, same-itself}
+use Rattle.codes.proofs.Promises.{list-laws}
 use Rattle.strip.proofs.Verdicts.{gives-refuses, verdict-gives, verdict-passed}
 use Rattle.strip.proofs.Sweeps.{targets-follow}
 use Rattle.strip.proofs.Readings.{check-all}
@@ -74,7 +74,7 @@ module _ (xs : List ℕ) (p : Packable xs) where
   check-back =
       let stop = listing-finds .stop levels (image xs) xs held in
       let o : ordered xs ≡ true = is-true (ordered xs) (p .in-order) in
-      rw (opens .bits .opened) (check-all (image xs) levels stop ∙ rw (list-back, o, same-itself (image xs)) (ap gives (held .stores .pins-are)))
+      rw (opens .bits .opened) (check-all (image xs) levels stop ∙ rw (list-back, o, list-laws .same-itself (image xs)) (ap gives (held .stores .pins-are)))
 
   unpacks-back : (out : List ℕ) → length xs ≤ length out → UnpacksTo (image xs) xs out
   unfolding unpackOf unpackOutput verdict
@@ -121,7 +121,7 @@ module _ (s : List ℕ) (levels : Levels) (o : opening s ≡ gives levels) (n : 
   xs = listIn s levels
 
   read-image : image xs ≡ s
-  read-image = same-lists (image xs) s (accepts s levels n (sym e) .image-is)
+  read-image = list-laws .same-lists (image xs) s (accepts s levels n (sym e) .image-is)
 
   read-packable : Packable xs
   read-packable = let a = accepts s levels n (sym e) in open-packable s levels o (a .all) (a .in-order) read-image

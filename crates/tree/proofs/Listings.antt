@@ -5,18 +5,18 @@ use mathlib.Core.List.{List, [], _∷_, _++_, append-nil}
 use Prim.Native.Nat.{ℕ, zero, suc, _+_, _-_, _*_, _≤_, _<_}
 use native.Mathlib.Nat.{zero-add, add-zero, add-suc}
 use native.Mathlib.Omega.{arith}
-use lib.ListN.{length, set, getD}
+use lib.ListN.{length, drop, set, getD, replicate, drop-of-length-le}
 use borrow.Author.Tests.{lt-ltb, le-ltb}
+use Rattle.codes.specs.Lists.{replaced, filledTo}
+use Rattle.codes.proofs.Promises.{list-laws}
 use Rattle.tree.specs.declared.nodes.Levels.{Levels}
 use Rattle.tree.specs.Shape.{rootPlace, childOf, sideOf, rank}
 use Rattle.tree.specs.Stored.{timeOf}
 use Rattle.tree.specs.Times.{at, refused, timesIn}
 use Rattle.tree.specs.Walks.{Answer, found, stopped, toward, accessAnswer}
-use Rattle.tree.specs.Buffers.{replaced}
 use Rattle.tree.specs.Listing.{Stop, nowhere, at as stop-at, accesses, timeThen, timesFrom, stopOr, stopFrom, endOf, timesAll, stopAll}
 use Rattle.tree.specs.Standing.{Stands, Reaches}
 use Rattle.tree.specs.Merged.{KnownRanks}
-use Rattle.tree.proofs.Buffers.{replaced-around}
 use Rattle.tree.proofs.Paths.{access-answer}
 use Rattle.tree.proofs.Steps.{stands-place, stands-rank, stands-node, stands-child, access-end, access-refused, access-step}
 
@@ -176,8 +176,21 @@ module _ {levels : Levels} {s : List ℕ} {v depth start pins above : ℕ}
           times-end (accesses levels s) (place - 1) start ∙ sym k ∙ omega (arith, place-is) in
           let n : start + place - 1 + 1 ≡ start + place = omega (arith, place-is) in (
             a ∙ sym (stop-is ∙ ap (λ (y : Stop). orLater y (stopFrom (accesses levels s) (pins - place) (start + place))) (sym q)),
-            b ∙ rw done (rw n at (replaced-around before start (start + place - 1) (timesFrom (accesses levels s) (place - 1) start) x
+            b ∙ rw done (rw n at (list-laws .replaced-around before start (start + place - 1) (timesFrom (accesses levels s) (place - 1) start) x
                 (timesFrom (accesses levels s) (pins - place) (start + place)) l (omega (arith, place-is))))
                 ∙ ap (replaced before start) (sym (times-are
                 ∙ ap (λ (y : Stop). timesFrom (accesses levels s) (place - 1) start ++ unlessAt y (x ∷ timesFrom (accesses levels s) (pins - place) (start + place))) (sym q))),
           )
+
+-- ---- a buffer that is 0 behind its entries
+
+drop-zeros : (k n : ℕ) → drop k (replicate {A = ℕ} n 0) ≡ replicate (n - k) 0
+drop-zeros zero n = let e : n ≡ n - 0 = omega arith in ap (λ (m : ℕ). replicate {A = ℕ} m 0) e
+drop-zeros (suc k) zero = let e : 0 ≡ 0 - suc k = omega arith in ap (λ (m : ℕ). replicate {A = ℕ} m 0) e
+drop-zeros (suc k) (suc n) = let e : n - k ≡ suc n - suc k = omega arith in drop-zeros k n ∙ ap (λ (m : ℕ). replicate {A = ℕ} m 0) e
+
+-- entries written to the front of n that were made 0
+pub filled-front : (n : ℕ) (out xs : List ℕ) {zs after : List ℕ} → length out ≡ n → zs ≡ replicate n 0 ++ drop n out → after ≡ replaced zs 0 xs → after ≡ filledTo n xs
+filled-front n out xs e z f =
+    let zeros = z ∙ ap (λ (zs : List ℕ). replicate n 0 ++ zs) (drop-of-length-le out {i = n} (omega arith)) ∙ append-nil (replicate n 0) in
+    f ∙ rw (zeros, zero-add (length xs)) (ap (λ (zs : List ℕ). xs ++ zs) (drop-zeros (length xs) n))

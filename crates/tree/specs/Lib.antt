@@ -1,6 +1,6 @@
--- What the tree means. A reader of the public contracts needs Shape, Lists, Stored, Levels, Times, Walks, Sweeps, Buffers, Listing,
--- LevelMarks, DecodedLevels and Chosen; Marked has lists with what their nodes store, Promises what is shown besides the contracts. Filled,
--- Standing, Merged and Remembering are cited by private functions alone.
+-- What the tree means. A reader of the public contracts needs Shape, Lists, Stored, Levels, Times, Walks, Sweeps, Listing, LevelMarks,
+-- DecodedLevels and Chosen; Marked has lists with what their nodes store, Promises what is shown besides the contracts. Filled, Standing,
+-- Merged and Remembering are cited by private functions alone.
 pub mod Shape
 pub mod Lists
 pub mod Stored
@@ -9,7 +9,6 @@ pub mod LevelMarks
 pub mod Times
 pub mod Walks
 pub mod Sweeps
-pub mod Buffers
 pub mod Listing
 pub mod DecodedLevels
 pub mod Chosen

@@ -1,7 +1,7 @@
 -- The times stand at the front up to where listing ends, and what is told follows from them and from that end.
 use mathlib.Core.Path.{_≡_, sym, ap, _∙_}
 use Rattle.tree.specs.Listing.{nowhere, listed}
-use Rattle.tree.proofs.Buffers.{filled-whole}
+use Rattle.codes.proofs.Promises.{list-laws}
 use Rattle.strip.specs.Calls.{listIn}
 use Rattle.strip.proofs.Checks.{list-count, listed-front, read-lists}
 use borrow.Author.Needs.{needs}
@@ -57,7 +57,7 @@ returns c =
     let a = b .args in
     let l = c .before .before .before .before .before .before .before .before .before .before .list in
     let stop = sym (ap listed (c .before .before .before .before .enum-told .given .1)) ∙ l .ensures .0 in
-    let whole : l .last .0 ≡ listIn (a .s .now) (a .levels) = l .ensures .1 .0 ∙ filled-whole (a .levels .pins) (listIn (a .s .now) (a .levels)) (list-count (a .levels) (a .s .now) nowhere stop) in
+    let whole : l .last .0 ≡ listIn (a .s .now) (a .levels) = l .ensures .1 .0 ∙ list-laws .filled-whole (a .levels .pins) (listIn (a .s .now) (a .levels)) (list-count (a .levels) (a .s .now) nowhere stop) in
     (c .gap-or .ensures ∙ rw (c .before .before .before .before .before .before .before .before .before .before .before .before .before .gap-of .ensures, whole, c .before .before .end-of .ensures) (read-lists (a .s .now) (a .levels) (b .pre .0 .1) (λ j. c .before .before .before .before .before .before .before .before .before .before .before .before .before .before .shared-slice-known .given j .fits) (a .asked) nowhere stop), l .ensures .1 .0)
 
 same-length-3 : tie.Need-same-length-3

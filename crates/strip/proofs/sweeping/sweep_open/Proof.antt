@@ -3,13 +3,12 @@ use native.Mathlib.Omega.{arith}
 use mathlib.Core.Path.{_≡_, refl, ap, _∙_}
 use mathlib.Core.List.{List}
 use Prim.Native.Nat.{ℕ}
+use native.Mathlib.Nat.{zero-add}
 use lib.ListN.{length}
-use Rattle.codes.specs.Lists.{atFront}
+use Rattle.codes.specs.Lists.{atFront, replaced}
 use Rattle.tree.specs.Walks.{Answer, stopped}
-use Rattle.tree.specs.Buffers.{replaced}
 use Rattle.tree.specs.Sweeps.{sweepAll}
 use Rattle.tree.proofs.Promises.{zero-marks}
-use Rattle.tree.proofs.Buffers.{replaced-front}
 use Rattle.strip.specs.Calls.{sweepIn}
 use Rattle.strip.proofs.Gaps.{not-ordered, is-ordered}
 use Rattle.strip.proofs.Sweeps.{lengths-differ, targets-fall, targets-follow}
@@ -38,7 +37,7 @@ follows : (c : tie.Else2) {o p : Answer} {after : List ℕ} → let a = c .befor
 follows c o p e =
     let a = c .before .before .before .before .before .before .args in
     rw (targets-follow (a .s .now) (a .targets .now) (length (a .answers .now)) (a .levels) (omega arith) (is-ordered (a .targets .now) (omega arith)))
-    (o ∙ p, e ∙ replaced-front (a .answers .now) (sweepAll (a .levels) (a .s .now) (a .targets .now) .positions))
+    (o ∙ p, e ∙ rw (zero-add (length (sweepAll (a .levels) (a .s .now) (a .targets .now) .positions))))
 
 slice-aggregate-sweep : tie.Need-slice-aggregate-sweep
 slice-aggregate-sweep c = search needs

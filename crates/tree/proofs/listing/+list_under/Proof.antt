@@ -3,12 +3,12 @@ use native.Mathlib.Omega.{arith}
 use mathlib.Core.Path.{_≡_, refl, sym, ap, _∙_}
 use Prim.Native.Nat.{ℕ, _+_, _-_, _≤_, _<_}
 use lib.ListN.{length, set, length-set}
+use Rattle.codes.proofs.Promises.{list-laws}
 use Rattle.tree.specs.Times.{at, timesIn}
 use Rattle.tree.specs.Listing.{timesFrom, stopFrom, listed}
 use Rattle.tree.proofs.LevelMarks.{marks-zero}
 use Rattle.tree.proofs.NodeFetches.{Level}
 use Rattle.tree.proofs.Steps.{stands-node, stands-place, stands-level, stands-told, stands-time}
-use Rattle.tree.proofs.Buffers.{replaced-none}
 use Rattle.tree.proofs.Listings.{listed-refused, stands-left, stands-right, listed-left, listed-right}
 use borrow.Author.Needs.{needs}
 use borrow.Fn.Kinds.{In, Out}
@@ -55,7 +55,7 @@ returns : (t : ℕ) → lts.Need-returns (calls t) (given t) reads.Post
 unfolding stopFrom timesFrom
 returns t c =
     let a = c .before .before .before .args in
-    rw (c .if1 .taken) (refl, sym (replaced-none (a .times .now) (a .start)))
+    rw (c .if1 .taken) (refl, sym (list-laws .replaced-none (a .times .now) (a .start)))
 
 slice-aggregate-open-full : (t : ℕ) → lts.Need-slice-aggregate-open-full (calls t) (given t) reads.Post
 slice-aggregate-open-full t c = search needs
@@ -74,7 +74,7 @@ returns-2 t c =
     let p = c .before .before .before .before .before .before .before .before .before .before .before .pre .1 .1 in
     let e = stands-told (p .0) (c .before .before .before .open-full .result) (c .before .before .before .open-full .ensures .0) ∙ sym (c .refusal-of .ensures) in
     let z = listed-refused (p .0) (p .1) (omega arith) _ _ e in
-    (sym (z .0), sym (rw (z .1) (replaced-none (a .times .now) (a .start))))
+    (sym (z .0), sym (rw (z .1) (list-laws .replaced-none (a .times .now) (a .start))))
 
 cast-time : (t : ℕ) → lts.Need-cast-time (calls t) (given t) reads.Post
 cast-time t c = search needs

@@ -5,14 +5,14 @@ use mathlib.Core.Path.{_≡_, sym, ap, _∙_}
 use mathlib.Core.Logic.{⊎-elim}
 use lib.ListN.{length}
 use Rattle.codes.specs.Decode.{all}
+use Rattle.codes.proofs.Promises.{list-laws}
 use Rattle.tree.specs.Times.{timesIn}
 use Rattle.tree.specs.Listing.{timesAll}
 use Rattle.tree.specs.DecodedLevels.{decodedLevels}
 use Rattle.tree.proofs.NodeFetches.{pins-bound}
-use Rattle.tree.proofs.Buffers.{filled-whole, filled-front}
 use Rattle.tree.proofs.AllValues.{all-of, values-count, known-values}
 use Rattle.tree.proofs.Steps.{stands-root, access-start}
-use Rattle.tree.proofs.Listings.{ranks-known}
+use Rattle.tree.proofs.Listings.{ranks-known, filled-front}
 use Rattle.tree.proofs.listing.list.Statement.{statement}
 use Rattle.tree.proofs.listing.list.Tie as tie
 
@@ -40,7 +40,7 @@ returns c =
     let ranks = rw count at (m .ensures (c .if2 .taken) (a .levels) (a .s .now) (known-values (a .levels) (a .s .now) (d .last .0) own)) in
     let n : length (m .last .0) ≡ a .levels .pins = m .kept .0 ∙ sym (b .pre .1) in
     let z = ranks-known (a .levels) (a .s .now) (m .last .0) (sym n) ranks in
-    (sym (z .1), (rw (z .0) (sym (filled-whole (a .levels .pins) (m .last .0) n)), record { told = sym done; left = d .ensures .left }))
+    (sym (z .1), (rw (z .0) (sym (list-laws .filled-whole (a .levels .pins) (m .last .0) n)), record { told = sym done; left = d .ensures .left }))
 
 -- as many entries as before
 same : (c : tie.Joined1) → length (c .if1 .times) ≡ length (c .before .before .before .before .before .before .before .before .args .times .now)

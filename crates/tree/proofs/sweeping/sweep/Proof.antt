@@ -7,14 +7,14 @@ use native.Mathlib.Numerals.{add-one}
 use borrow.Author.Needs.{needs}
 use lib.ListN.{length, getD, drop, drop-of-length-le, length-set}
 use lib.Seq.{drop-cons}
+use Rattle.codes.specs.Lists.{replaced}
+use Rattle.codes.proofs.Promises.{list-laws}
 use Rattle.tree.specs.declared.targets.Walked.{Walked}
 use Rattle.tree.specs.declared.targets.Walked.the-variants.{To}
 use Rattle.tree.specs.LevelMarks.{LevelMarks}
-use Rattle.tree.specs.Buffers.{replaced}
 use Rattle.tree.specs.Sweeps.{Sweep, sweepFrom, sweepAll}
 use Rattle.tree.specs.Remembering.{entries, GoesOn, Leaves}
 use Rattle.tree.proofs.NodeFetches.{pins-bound}
-use Rattle.tree.proofs.Buffers.{replaced-none, replaced-next}
 use Rattle.tree.proofs.Remembering.{goes-root, count-in}
 use Rattle.tree.proofs.Dropping.{Resumes, resumes, sweepOn, sweep-stopped, sweep-next}
 use Rattle.tree.proofs.sweeping.sweep.Statement.{statement}
@@ -112,7 +112,7 @@ returns c =
     let l = at-loop .loop in
     let e = subst (Left (c .before .before .before .before .before)) (c .before .walked2 .given .1) (c .before .before .before .before .before .go-down .ensures .0) in
     let d = first (c .before .before .before .before .before .before .before .before .before .before .before .before .before .before .before .before) ∙ sweep-stopped (goes (c .before .before .before .before .before .before .before .before .before .before .before .before)) (drop (l .i + 1) (a .targets .now)) _ _ e in
-    (sym (l .inv .3 ∙ ap (λ (x : Sweep). x .answer) d), (sym (l .inv .4 ∙ ap (λ (x : Sweep). replaced (l .answers) (l .i) (x .positions)) d ∙ replaced-none (l .answers) (l .i)), c .before .before .before .before .before .go-down .ensures .1))
+    (sym (l .inv .3 ∙ ap (λ (x : Sweep). x .answer) d), (sym (l .inv .4 ∙ ap (λ (x : Sweep). replaced (l .answers) (l .i) (x .positions)) d ∙ list-laws .replaced-none (l .answers) (l .i)), c .before .before .before .before .before .go-down .ensures .1))
 
 -- where the target ends that is not refused
 left : (c : tie.After-walked Inv-loop μ-loop) → Left (c .before .before .before .before) (To (c .walked .given .0 .0))
@@ -154,7 +154,7 @@ loop-again c =
       length-set (l .answers) (l .i) _ ∙ l .inv .1,
       k .0 .goes,
       l .inv .3 ∙ ap (λ (x : Sweep). x .answer) d,
-      l .inv .4 ∙ ap (λ (x : Sweep). replaced (l .answers) (l .i) (x .positions)) d ∙ sym (replaced-next (l .answers) (l .i) _ _ (room in-loop)),
+      l .inv .4 ∙ ap (λ (x : Sweep). replaced (l .answers) (l .i) (x .positions)) d ∙ sym (list-laws .replaced-next (l .answers) (l .i) _ _ (room in-loop)),
       down .ensures .1,
       down .kept .1 .1 .0 ∙ l .inv .6,
     )
@@ -171,7 +171,7 @@ returns-2 c =
     let a = start (c .before) .args in
     let l = c .before .loop in
     let d : drop (l .i) (a .targets .now) ≡ [] = drop-of-length-le (a .targets .now) {i = l .i} (omega arith) in
-    (rw d at (sym (l .inv .3)), (sym (l .inv .4 ∙ rw d (replaced-none (l .answers) (l .i))), l .inv .5))
+    (rw d at (sym (l .inv .3)), (sym (l .inv .4 ∙ rw d (list-laws .replaced-none (l .answers) (l .i))), l .inv .5))
 
 pub sweep-spec : {M : Type 1} → statement M
 sweep-spec =
