@@ -3,6 +3,7 @@
 pub mod Best
 pub mod Bits
 pub mod BitsWritten
+pub mod Buffers
 pub mod ChosenParts
 pub mod ChunkCounts
 pub mod CodeByte

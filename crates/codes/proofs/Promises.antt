@@ -2,9 +2,10 @@
 use native.Mathlib.Omega.{arith}
 use Rattle.codes.specs.declared.kinds.Kind.the-variants.{Chunked}
 use Rattle.codes.specs.Codes.{kindBits, levelBits}
-use Rattle.codes.specs.Promises.{RoundTrip, Lengths, BestChoice, CodeKnown, LeastWidth, DecodeFetches, DecodeBack, DecodedPart, ChosenParts, ShortFetches, ZeroMarks}
+use Rattle.codes.specs.Promises.{RoundTrip, Lengths, BestChoice, CodeKnown, LeastWidth, DecodeFetches, DecodeBack, DecodedPart, ChosenParts, ShortFetches, ZeroMarks, ListLaws}
 use Rattle.codes.proofs.Best.{chosen-holds, chosen-size, chosen-first, chosen-at-most}
 use Rattle.codes.proofs.Bits.{length-fixed, length-padded}
+use Rattle.codes.proofs.Buffers.{buffer-laws}
 use Rattle.codes.proofs.ChosenParts.{chosen-told}
 use Rattle.codes.proofs.ChunkCounts.{chunked-length}
 use Rattle.codes.proofs.CodeByte.{kind-told}
@@ -58,3 +59,6 @@ short-fetches = short-fetched
 
 pub zero-marks : ZeroMarks
 zero-marks = marks-zero
+
+pub list-laws : ListLaws
+list-laws = buffer-laws

@@ -1,12 +1,13 @@
 -- What is shown of the level codes besides each function's contract. proofs/Promises proves each, as
--- `round-trip`, `lengths`, `best-choice`, `code-known`, `least-width`, `decode-fetches`, `decode-back`, `decoded-part`, `chosen-parts`, `short-fetches` and `zero-marks`.
+-- `round-trip`, `lengths`, `best-choice`, `code-known`, `least-width`, `decode-fetches`, `decode-back`, `decoded-part`, `chosen-parts`, `short-fetches`, `zero-marks` and `list-laws`.
 use mathlib.Core.Path.{_≡_}
 use mathlib.Core.Bool.{true}
-use mathlib.Core.List.{List, _++_, map}
+use mathlib.Core.List.{List, [], _∷_, _++_, map}
 use Prim.Native.Nat.{ℕ, _+_, _*_, _^_, _≤_, _<_}
-use lib.ListN.{length, getD}
+use lib.ListN.{length, set, getD}
 use Rattle.codes.specs.declared.kinds.Kind.{Kind}
 use Rattle.codes.specs.declared.kinds.Kind.the-variants.{Fixed, Chunked, Refused}
+use Rattle.codes.specs.Lists.{same, replaced, filledTo}
 use Rattle.codes.specs.Bits.{sum, bitsOf, bytesFor}
 use Rattle.codes.specs.Codes.{kindOf, part, Within, Holds}
 use Rattle.codes.specs.Choice.{widthIn, chunks, size, chosen, isChosen}
@@ -78,3 +79,20 @@ ShortFetches = (code count j : ℕ) (bytes : List ℕ) → shortFetched code j b
 -- 11. Entries that are all 0 are marks of any part.
 abbrev pub ZeroMarks : Type 0
 ZeroMarks = (bytes ms : List ℕ) → ((j : ℕ) → getD ms j 0 ≡ 0) → Marks bytes ms
+
+-- 12. The laws of lists and buffers that the layers above cite.
+pub record ListLaws : Type 0 where
+  -- the test tells whether two lists are the same
+  pub same-lists : (xs ys : List ℕ) → same xs ys ≡ true → xs ≡ ys
+  pub same-itself : (xs : List ℕ) → same xs xs ≡ true
+  -- no entries leave a buffer as it was
+  pub replaced-none : (out : List ℕ) (a : ℕ) → replaced out a [] ≡ out
+  -- entries, and further ones where they end
+  pub replaced-more : (out : List ℕ) (a b : ℕ) (p q : List ℕ) → a + length p ≡ b → b ≤ length out → replaced (replaced out a p) b q ≡ replaced out a (p ++ q)
+  -- one entry by itself, and entries after it
+  pub replaced-next : (out : List ℕ) (i x : ℕ) (q : List ℕ) → i < length out → replaced (set out i x) (i + 1) q ≡ replaced out i (x ∷ q)
+  -- entries before it as well
+  pub replaced-around : (out : List ℕ) (a b : ℕ) (p : List ℕ) (x : ℕ) (q : List ℕ) → a + length p ≡ b → b < length out
+      → replaced (set (replaced out a p) b x) (b + 1) q ≡ replaced out a (p ++ x ∷ q)
+  -- where there are as many entries as the buffer has, nothing is 0 after them
+  pub filled-whole : (n : ℕ) (xs : List ℕ) → length xs ≡ n → filledTo n xs ≡ xs

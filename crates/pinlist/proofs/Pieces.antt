@@ -5,14 +5,14 @@ use Prim.Native.Nat.{ℕ, _+_, _≤_}
 use native.Mathlib.Omega.{arith}
 use lib.ListN.{length, take, drop, length-append}
 use lib.Seq.{take-at}
-use Rattle.tree.specs.Buffers.{replaced}
-use Rattle.tree.proofs.Buffers.{replaced-more}
+use Rattle.codes.specs.Lists.{replaced}
+use Rattle.codes.proofs.Promises.{list-laws}
 
 -- bytes put where those before them end
 pub puts-on : (text p q : List ℕ) (a : ℕ) {mid after : List ℕ} {b end : ℕ} → mid ≡ replaced text a p → b ≡ a + length p → after ≡ replaced mid b q
     → end ≡ b + length q → b ≤ length text → (after ≡ replaced text a (p ++ q)) × (end ≡ a + length (p ++ q))
 puts-on text p q a {b = b} m e f g h =
-    (f ∙ ap (λ (t : List ℕ). replaced t b q) m ∙ replaced-more text a b p q (sym e) h, omega (arith, length-append p q))
+    (f ∙ ap (λ (t : List ℕ). replaced t b q) m ∙ list-laws .replaced-more text a b p q (sym e) h, omega (arith, length-append p q))
 
 -- bytes put to the front, found again
 pub front-is : (text : List ℕ) {after p : List ℕ} {end : ℕ} → after ≡ replaced text 0 p → end ≡ length p → (take end after ≡ p) × (end ≤ length after)

@@ -4,7 +4,7 @@ use strip::Walked;
 ghost use mathlib.Core.Path.{_≡_};
 ghost use Prim.Native.Nat.{_+_, _<_, _≤_};
 ghost use lib.ListN.{length, getD};
-ghost use Rattle.tree.specs.Buffers.{replaced};
+ghost use Rattle.codes.specs.Lists.{replaced};
 ghost use Rattle.tree.specs.Outcomes.{gives};
 ghost use Rattle.strip.specs.Calls.{checkOf, plainList};
 ghost use Rattle.strip.specs.Demands.{Accepted};

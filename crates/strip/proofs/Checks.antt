@@ -10,6 +10,7 @@ use lib.ListN.{length, take, replicate, length-append}
 use lib.Pow.{pow-mono}
 use lib.Seq.{take-at}
 use borrow.Author.Tests.{not-false}
+use Rattle.codes.proofs.Promises.{list-laws}
 use Rattle.codes.specs.Lists.{same}
 use Rattle.codes.specs.Codes.{Within}
 use Rattle.tree.specs.declared.nodes.Levels.{Levels}
@@ -18,9 +19,8 @@ use Rattle.tree.specs.Lists.{ordered}
 use Rattle.tree.specs.declared.listing.Listed.{Listed}
 use Rattle.tree.specs.Outcomes.{Outcome, gives, refuses, after, Test, test, verdict}
 use Rattle.tree.specs.Listing.{accesses, stopAll, endOf, Lists}
-use Rattle.tree.specs.Buffers.{filledTo}
+use Rattle.codes.specs.Lists.{filledTo}
 use Rattle.tree.specs.Chosen.{allChosen}
-use Rattle.tree.proofs.Buffers.{filled-whole}
 use Rattle.tree.proofs.Promises.{height-least, listing-finds, outcome-laws}
 use Rattle.strip.specs.declared.reading.Asked.{Asked}
 use Rattle.strip.specs.declared.reading.Asked.the-variants as asking
@@ -31,7 +31,6 @@ use Rattle.strip.specs.Calls.{roomFor, listIn, checkIn}
 use Rattle.strip.specs.Read.{unpackIn, gapOr, counted, gapOf, imageIn, endIn, listRead}
 use Rattle.strip.proofs.OpenImages.{open-image, open-packable, image-chosen}
 use Rattle.strip.proofs.Readings.{ending, repeat-lists, falls-first, last, check-lists, check-all, check-stopped}
-use Rattle.codes.proofs.Lists.{same-lists, same-itself}
 use Rattle.strip.proofs.Verdicts.{verdict-passed}
 
 -- the levels of an open strip have at most 65,535 pins
@@ -72,9 +71,9 @@ module _ (s : List ℕ) (levels : Levels) (o : opening s ≡ gives levels) (byte
   chosen-is all in-order = go (allChosen levels s) (same (image (listIn s levels)) s) refl refl
     where
       go : (a b : Bool) → allChosen levels s ≡ a → same (image (listIn s levels)) s ≡ b → a ≡ b
-      go true b p q = sym (same-itself s) ∙ rw (open-image s levels o bytes all p) at q
+      go true b p q = sym (list-laws .same-itself s) ∙ rw (open-image s levels o bytes all p) at q
       go false true p q =
-          let is : image (listIn s levels) ≡ s = same-lists (image (listIn s levels)) s q in
+          let is : image (listIn s levels) ≡ s = list-laws .same-lists (image (listIn s levels)) s q in
           absurd (false≢true (sym p ∙ image-chosen s levels (listIn s levels) (open-packable s levels o all in-order is) o is))
       go false false p q = refl
 
@@ -141,7 +140,7 @@ module _ (s : List ℕ) (levels : Levels) where
 
   -- then the list fills the buffer that was lent
   pub accepted-whole : (n : ℕ) → gives n ≡ checkIn s levels → filledTo (levels .pins) (listIn s levels) ≡ listIn s levels
-  accepted-whole n e = filled-whole (levels .pins) (listIn s levels) (accepted-count n e ∙ accepts n e .pins)
+  accepted-whole n e = list-laws .filled-whole (levels .pins) (listIn s levels) (accepted-count n e ∙ accepts n e .pins)
 
 -- ---- a pin count, as it is told
 

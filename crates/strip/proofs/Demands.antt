@@ -14,6 +14,7 @@ use lib.Seq.{take-at}
 use denote.Ref.{now}
 use borrow.Author.Tests.{eqb-false, ltb-false, not-false, ne-eqb, le-ltb, lt-leb, le-leb}
 use lib.Ieee.Bits.{is-true}
+use Rattle.codes.proofs.Promises.{list-laws}
 use Rattle.codes.specs.Lists.{atFront}
 use Rattle.codes.specs.Codes.{Within}
 use Rattle.tree.specs.declared.nodes.Levels.{Levels}
@@ -40,7 +41,6 @@ use Rattle.strip.specs.Opening.{opening}
 use Rattle.strip.specs.Calls.{packOf, written, packOutput, packed, searchOf, walked, sweepOf, sweepOutput, swept, listIn, checkIn, checkOf, checked, plainList, unpackOf, unpackOutput, movedBy, stepOf, nextOf, walkerStep, walkerAfter, walkerAfterSteps}
 use Rattle.strip.specs.Promises.{Opens}
 use Rattle.strip.specs.Demands.{PacksTo, UnpacksTo, Accepted, CheckAccepts, Demand2, SweepsAs, Demand3, WalkerLists}
-use Rattle.codes.proofs.Lists.{same-lists, same-itself}
 use Rattle.strip.proofs.Verdicts.{verdict-passed}
 use Rattle.strip.proofs.Sweeps.{targets-follow}
 use Rattle.strip.proofs.Readings.{check-all}
@@ -92,7 +92,7 @@ module _ (xs : List ℕ) (p : Packable xs) where
   unfolding checkOf verdict test
   check-back =
       let o : ordered xs ≡ true = is-true (ordered xs) (p .in-order) in
-      rw (opens .bits .opened) (check-all (image xs) levels (reads .stop) ∙ rw (list-back, o, same-itself (image xs)) (ap gives (held .stores .pins-are)))
+      rw (opens .bits .opened) (check-all (image xs) levels (reads .stop) ∙ rw (list-back, o, list-laws .same-itself (image xs)) (ap gives (held .stores .pins-are)))
 
   unpacks-back : (out : List ℕ) → length xs ≤ length out → UnpacksTo (image xs) xs out
   unfolding unpackOf unpackOutput verdict test
@@ -139,7 +139,7 @@ module _ (s : List ℕ) (levels : Levels) (o : opening s ≡ gives levels) (n : 
   xs = listIn s levels
 
   read-image : image xs ≡ s
-  read-image = same-lists (image xs) s (accepts s levels n (sym e) .image-is)
+  read-image = list-laws .same-lists (image xs) s (accepts s levels n (sym e) .image-is)
 
   read-packable : Packable xs
   read-packable = let a = accepts s levels n (sym e) in open-packable s levels o (a .all) (a .in-order) read-image

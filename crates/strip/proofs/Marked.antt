@@ -18,7 +18,7 @@ use Rattle.strip.specs.Layout.{maxPins}
 use Rattle.strip.specs.Calls.{packOf, packOutput, accessOf, searchOf, upToOf, sweepOf, sweepOutput, checkOf, unpackOf, unpackOutput, repeatOf, stepOf, nextOf}
 use Rattle.strip.specs.Marked.{Case, packs, accesses, searches, upTos, sweeps, checks, unpacks, repeats, steps, root, tall, Says, sameOption, sameOutcome, sameFound, passes, all, marked, marked-pass}
 use lib.Ieee.Bits.{is-true}
-use Rattle.codes.proofs.Lists.{same-lists}
+use Rattle.codes.proofs.Promises.{list-laws}
 
 module _ {A : Type 0} (equal : A → A → Bool) (same-values : (a b : A) → T (equal a b) → a ≡ b) where
   same-options : (x y : Option A) → T (sameOption equal x y) → x ≡ y
@@ -39,17 +39,17 @@ same-found f g h = let b = and-yes (eqb (f .value) (g .value)) (eqb (f .nodes) (
 says : (c : Case) → T (passes c) → Says c
 says (packs xs out r after) h =
     let b = and-yes (sameOutcome eqb (packOf xs (length out)) r) (same (packOutput xs out) after) h in
-    (same-outcomes eqb eqb→eq (packOf xs (length out)) r (b .0), same-lists (packOutput xs out) after (is-true _ (b .1)))
+    (same-outcomes eqb eqb→eq (packOf xs (length out)) r (b .0), list-laws .same-lists (packOutput xs out) after (is-true _ (b .1)))
 says (accesses s i r) h = same-outcomes sameFound same-found (accessOf s i) r h
 says (searches s t r) h = same-outcomes sameFound same-found (searchOf s t) r h
 says (upTos s t r) h = same-outcomes sameFound same-found (upToOf s t) r h
 says (sweeps s ts out r after) h =
     let b = and-yes (sameOutcome eqb (sweepOf s ts (length out)) r) (same (sweepOutput s ts out) after) h in
-    (same-outcomes eqb eqb→eq (sweepOf s ts (length out)) r (b .0), same-lists (sweepOutput s ts out) after (is-true _ (b .1)))
+    (same-outcomes eqb eqb→eq (sweepOf s ts (length out)) r (b .0), list-laws .same-lists (sweepOutput s ts out) after (is-true _ (b .1)))
 says (checks s r) h = same-outcomes eqb eqb→eq (checkOf s) r h
 says (unpacks s out r after) h =
     let b = and-yes (sameOutcome eqb (unpackOf s (length out)) r) (same (unpackOutput s out) after) h in
-    (same-outcomes eqb eqb→eq (unpackOf s (length out)) r (b .0), same-lists (unpackOutput s out) after (is-true _ (b .1)))
+    (same-outcomes eqb eqb→eq (unpackOf s (length out)) r (b .0), list-laws .same-lists (unpackOutput s out) after (is-true _ (b .1)))
 says (repeats s r x) h = same-outcomes (sameOption eqb) (same-options eqb eqb→eq) (repeatOf s r) x h
 says (steps s i x j) h =
     let b = and-yes (sameOutcome (sameOption sameFound) (stepOf s i) x) (eqb (nextOf s i) j) h in

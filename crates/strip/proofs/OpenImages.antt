@@ -12,7 +12,6 @@ use lib.Seq.{take-add, take-all, drop-drop, getD-drop, length-take-le}
 use borrow.Author.Tests.{ltb-false, eqb-true, eqb-false, not-false}
 use Rattle.codes.specs.Codes.{part, Within}
 use Rattle.codes.specs.Choice.{chosen as chosenFor}
-use Rattle.codes.proofs.Bits.{within-drop}
 use Rattle.tree.specs.declared.nodes.Levels.{Levels}
 use Rattle.tree.specs.Shape.{height}
 use Rattle.tree.specs.Lists.{ordered}
@@ -116,7 +115,7 @@ module _ (s : List ℕ) (levels : Levels) (o : Open s levels) (bytes : Within 8 
       let e₃ : 7 + 5 * d + (1 + 2) ≡ 8 + 5 * d + 2 = omega arith in
       let e₄ : 7 + 5 * d + (1 + 2 + 1) ≡ 8 + 5 * d + 2 + 1 = omega arith in
       rw (getD-drop (7 + 5 * d) s 0 0, getD-drop (7 + 5 * d) s 1 0, getD-drop (7 + 5 * d) s (1 + 1) 0, getD-drop (7 + 5 * d) s (1 + 2) 0, getD-drop (7 + 5 * d) s (1 + 2 + 1) 0, add-zero (7 + 5 * d), e₁, e₂, e₃, e₄) at
-      (entry-again (drop (7 + 5 * d) s) (within-drop 8 (7 + 5 * d) s bytes) (rw length-drop (omega (arith, o .long))))
+      (entry-again (drop (7 + 5 * d) s) (λ j. rw getD-drop (bytes (7 + 5 * d + j))) (rw length-drop (omega (arith, o .long))))
 
   module _ (codes-are : (d : ℕ) → d < height n → codeFor values d ≡ codeAt s d) (parts-are : (d : ℕ) → d < height n → partFor values d ≡ partOf (levels .ends) s d) where
     -- a part has the length that its entry tells

@@ -1,4 +1,4 @@
--- Bytes written one after the other, and found again.
+-- Bytes written one after the other, and found again; and the front of a new array.
 use mathlib.Core.Path.{_≡_, refl, sym, ap, _∙_}
 use mathlib.Core.List.{List, [], _++_, append-assoc, append-nil}
 use Prim.Native.Nat.{ℕ, zero, suc, _+_, _-_, _*_, _≤_, _<_}
@@ -6,13 +6,13 @@ use native.Mathlib.Nat.{mul-zero, mul-suc}
 use native.Mathlib.Decide.{decLt}
 use native.Mathlib.Numerals.{add-one}
 use native.Mathlib.Omega.{arith}
-use lib.ListN.{length, take, drop, length-append, length-take, length-drop, drop-of-length-le}
-use lib.Seq.{take-all, drop-drop}
+use lib.ListN.{length, take, drop, replicate, length-append, length-take, length-drop, length-replicate, drop-of-length-le}
+use lib.Seq.{length-take-le, take-all, drop-drop}
 use borrow.Rule.Slice.PartMut.{midOf, putMid}
+use Rattle.codes.specs.Lists.{replaced}
+use Rattle.codes.proofs.Promises.{list-laws}
 use Rattle.tree.specs.declared.nodes.Levels.{Levels}
 use Rattle.strip.specs.Image.{joined}
-use Rattle.tree.specs.Buffers.{replaced}
-use Rattle.tree.proofs.Buffers.{replaced-more}
 use Rattle.strip.specs.Written.{entryIn}
 
 -- what d levels have begins what more levels have
@@ -55,7 +55,7 @@ pub entries-next : (levels : Levels) (out : List ℕ) (d : ℕ) → 7 + 5 * d + 
     → replaced (replaced out 7 (joined (entryIn levels) d)) (7 + 5 * d) (entryIn levels d) ≡ replaced out 7 (joined (entryIn levels) (d + 1))
 entries-next levels out d h =
     let e : 7 + length (joined (entryIn levels) d) ≡ 7 + 5 * d = omega (arith, length-joined (entryIn levels) 5 (λ i. refl) d) in
-    replaced-more out 7 (7 + 5 * d) (joined (entryIn levels) d) (entryIn levels d) e (omega arith)
+    list-laws .replaced-more out 7 (7 + 5 * d) (joined (entryIn levels) d) (entryIn levels d) e (omega arith)
     ∙ ap (replaced out 7) (sym (joined-next (entryIn levels) d))
 
 -- ---- a part of the buffer, lent and written at its front
@@ -68,3 +68,11 @@ lent-written out a p h =
     let all : take (length out - a) (drop a out) ≡ drop a out = take-all (length out - a) (drop a out) (rw (length-drop a out) (omega arith)) in
     let none : drop (length out - a) (drop a out) ≡ [] = drop-of-length-le (drop a out) {i = length out - a} (rw (length-drop a out) (omega arith)) in
     rw (all, none, drop-drop (length p) a out, append-nil (p ++ drop (a + length p) out)) (sym (append-assoc (take a out) p (drop (a + length p) out)))
+
+-- ---- the front of a new array
+
+pub new-room : (k n : ℕ) → n ≤ k → n ≤ length (replicate {A = ℕ} k 0)
+new-room k n h = rw length-replicate h
+
+pub new-front : (k n : ℕ) → n ≤ k → n ≡ length (take n (replicate {A = ℕ} k 0))
+new-front k n h = sym (length-take-le n (replicate {A = ℕ} k 0) (new-room k n h))

@@ -2,23 +2,21 @@
 use mathlib.Core.Path.{_≡_, refl, sym, ap, _∙_}
 use mathlib.Core.List.{List, _++_}
 use Prim.Native.Nat.{ℕ, zero, suc, _+_, _-_, _*_, _/_, _^_, _≤_, _<_, min}
-use native.Mathlib.Nat.{add-sub-cancel-left}
+use native.Mathlib.Nat.{zero-add, add-sub-cancel-left}
 use native.Mathlib.Omega.{arith}
 use lib.ListN.{length, getD, length-append}
-use Rattle.codes.specs.Lists.{atFront}
+use Rattle.codes.specs.Lists.{atFront, replaced}
 use Rattle.codes.specs.Codes.{kindOf, part, Within, Holds}
 use Rattle.codes.specs.Choice.{chosen}
-use Rattle.codes.proofs.Promises.{lengths, best-choice}
+use Rattle.codes.proofs.Promises.{lengths, best-choice, list-laws}
 use Rattle.tree.specs.declared.nodes.Levels.{Levels}
 use Rattle.tree.specs.Shape.{height}
 use Rattle.tree.specs.Levels.{levelValues}
 use Rattle.tree.proofs.Promises.{stored-levels}
 use Rattle.strip.specs.Layout.{header, partsStart, endAfter}
 use Rattle.strip.specs.Image.{codeFor, partFor, lengthFor, planned, entryFor, joined, stripOf}
-use Rattle.tree.specs.Buffers.{replaced}
 use Rattle.strip.specs.Written.{entryIn}
 use Rattle.strip.proofs.Layouts.{At, laid-end, laid-at, laid-pins}
-use Rattle.tree.proofs.Buffers.{replaced-more, replaced-front}
 use Rattle.strip.proofs.Pieces.{length-joined, joined-same, joined-room}
 
 pub level-short : (values : List ℕ) (d : ℕ) → length (levelValues values d) ≤ length values
@@ -130,6 +128,6 @@ module _ (values : List ℕ) (few : length values < 2 ^ 16) (levels : Levels) (e
       let five : length entries ≡ 5 * h = length-joined (entryFor values) 5 (λ i. refl) h in
       let long = length-strip values in
       rw (pins, same)
-      (ap (λ (o : List ℕ). replaced o (partsStart n) parts) (replaced-more out 0 7 (header n) entries refl (omega arith))
-      ∙ replaced-more out 0 (partsStart n) (header n ++ entries) parts (rw (length-append (header n) entries) (omega (arith, five))) (omega arith)
-      ∙ replaced-front out (header n ++ entries ++ parts))
+      (ap (λ (o : List ℕ). replaced o (partsStart n) parts) (list-laws .replaced-more out 0 7 (header n) entries refl (omega arith))
+      ∙ list-laws .replaced-more out 0 (partsStart n) (header n ++ entries) parts (rw (length-append (header n) entries) (omega (arith, five))) (omega arith)
+      ∙ rw (zero-add (length (header n ++ entries ++ parts))))

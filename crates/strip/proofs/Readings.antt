@@ -10,13 +10,12 @@ use native.Mathlib.Decide.{decLt}
 use native.Mathlib.Omega.{arith}
 use lib.Dec.{T, ltb}
 use lib.ListN.{length, getD}
-use borrow.Author.Tests.{lt-ltb, le-ltb}
+use borrow.Author.Tests.{lt-ltb, le-ltb, lt-leb, le-leb}
 use Rattle.tree.specs.declared.nodes.Levels.{Levels}
 use Rattle.tree.specs.Lists.{ordered}
 use Rattle.tree.specs.declared.walking.Found.{Found}
 use Rattle.tree.specs.Outcomes.{Outcome, gives, refuses, after, Test, test, verdict}
 use Rattle.tree.specs.Listing.{accesses, timesFrom, stopFrom, timesAll, stopAll}
-use Rattle.tree.proofs.Orders.{ordered-head}
 use Rattle.strip.specs.Lists.{firstLower, gapFrom, firstGap}
 use Rattle.strip.specs.Calls.{timeAt, positionTest, positionsTests, listIn, imageTest, checkIn, nearAt, repeatFrom}
 use Rattle.strip.specs.Read.{firstNear, gapOr}
@@ -126,12 +125,15 @@ gaps-ordered : (r i : ℕ) (xs : List ℕ) → T (ordered xs) → gapsFrom r i x
 unfolding ordered firstNear gapFrom
 gaps-ordered r i [] o = refl
 gaps-ordered r i (x ∷ []) o = refl
-gaps-ordered r i (x ∷ y ∷ ys) o =
-    let b = ordered-head x y ys o in
-    elim (decLt y (x + r)) [
-      | yes n ↦ gaps-here r i x y ys (gives none) n ∙ rw (le-ltb y x (b .0), lt-ltb (y - x) r (omega (arith, b .0)))
-      | no n ↦ gaps-later r i x y ys (gives none) (omega arith) ∙ rw (le-ltb (y - x) r (omega arith)) (gaps-ordered r (suc i) (y ∷ ys) (b .1))
-    ]
+gaps-ordered r i (x ∷ y ∷ ys) o = elim (decLt y x) [
+  | yes l ↦ absurd (rw (lt-leb x y l) at o)
+  | no l ↦ elim (decLt y (x + r)) [
+    | yes n ↦ gaps-here r i x y ys (gives none) n ∙ rw (le-ltb y x (omega arith), lt-ltb (y - x) r (omega arith))
+    | no n ↦
+        gaps-later r i x y ys (gives none) (omega arith)
+        ∙ rw (le-ltb (y - x) r (omega arith)) (gaps-ordered r (suc i) (y ∷ ys) (rw (le-leb x y (omega arith)) at o))
+  ]
+]
 
 pub gap-ordered : (r : ℕ) (xs : List ℕ) → T (ordered xs) → gapOr r xs (gives none) ≡ gives (firstGap r xs)
 gap-ordered r xs o = rw (zero-add (firstNear r xs)) at (gaps-ordered r 0 xs o)

@@ -1,6 +1,5 @@
 -- Laws that the proofs of the functions cite, each file about what its first line says; Promises proves what specs/Promises states.
 pub mod AllValues
-pub mod Buffers
 pub mod Contents
 pub mod Counts
 pub mod Dropping

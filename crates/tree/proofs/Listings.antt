@@ -5,8 +5,10 @@ use mathlib.Core.List.{List, [], _∷_, _++_, append-nil}
 use Prim.Native.Nat.{ℕ, zero, suc, _+_, _-_, _*_, _≤_, _<_}
 use native.Mathlib.Nat.{zero-add, add-zero, add-suc}
 use native.Mathlib.Omega.{arith}
-use lib.ListN.{length, set, getD, length-append}
+use lib.ListN.{length, drop, set, getD, replicate, length-append, drop-of-length-le}
 use borrow.Author.Tests.{lt-ltb, le-ltb}
+use Rattle.codes.specs.Lists.{replaced, filledTo}
+use Rattle.codes.proofs.Promises.{list-laws}
 use Rattle.tree.specs.declared.nodes.Levels.{Levels}
 use Rattle.tree.specs.Shape.{rootPlace, childOf, sideOf, rank}
 use Rattle.tree.specs.Stored.{timeOf}
@@ -14,12 +16,10 @@ use Rattle.tree.specs.declared.walking.Found.{Found}
 use Rattle.tree.specs.Outcomes.{Outcome, gives, refuses, follow, after, Test}
 use Rattle.tree.specs.Times.{timesIn}
 use Rattle.tree.specs.Walks.{found, toward, accessAnswer}
-use Rattle.tree.specs.Buffers.{replaced}
 use Rattle.tree.specs.Listing.{accesses, timesFrom, stopFrom, timesAll, stopAll}
 use Rattle.tree.specs.Standing.{Stands, Reaches}
 use Rattle.tree.specs.Merged.{KnownRanks}
 use Rattle.tree.proofs.Outcomes.{gives-refuses}
-use Rattle.tree.proofs.Buffers.{replaced-around}
 use Rattle.tree.proofs.Paths.{access-answer}
 use Rattle.tree.proofs.Steps.{stands-place, stands-rank, stands-node, stands-child, access-end, access-refused, access-step}
 
@@ -176,5 +176,18 @@ module _ {levels : Levels} {s : List ℕ} {v depth start pins above : ℕ}
           let n : start + place - 1 + 1 ≡ start + place = omega (arith, place-is) in (
             a ∙ sym (both .0 ∙ rw (← q)),
             rw times (e ∙ omega (arith, place-is, l, length-append before-it (x ∷ after-it))),
-            rw times (b ∙ rw done (rw n at (replaced-around before start (start + place - 1) before-it x after-it (omega (arith, place-is, l)) (omega (arith, place-is))))),
+            rw times (b ∙ rw done (rw n at (list-laws .replaced-around before start (start + place - 1) before-it x after-it (omega (arith, place-is, l)) (omega (arith, place-is))))),
           )
+
+-- ---- a buffer that is 0 behind its entries
+
+drop-zeros : (k n : ℕ) → drop k (replicate {A = ℕ} n 0) ≡ replicate (n - k) 0
+drop-zeros zero n = let e : n ≡ n - 0 = omega arith in ap (λ (m : ℕ). replicate {A = ℕ} m 0) e
+drop-zeros (suc k) zero = let e : 0 ≡ 0 - suc k = omega arith in ap (λ (m : ℕ). replicate {A = ℕ} m 0) e
+drop-zeros (suc k) (suc n) = let e : n - k ≡ suc n - suc k = omega arith in drop-zeros k n ∙ ap (λ (m : ℕ). replicate {A = ℕ} m 0) e
+
+-- entries written to the front of n that were made 0
+pub filled-front : (n : ℕ) (out xs : List ℕ) {zs after : List ℕ} → length out ≡ n → zs ≡ replicate n 0 ++ drop n out → after ≡ replaced zs 0 xs → after ≡ filledTo n xs
+filled-front n out xs e z f =
+    let zeros = z ∙ ap (λ (zs : List ℕ). replicate n 0 ++ zs) (drop-of-length-le out {i = n} (omega arith)) ∙ append-nil (replicate n 0) in
+    f ∙ rw (zeros, zero-add (length xs)) (ap (λ (zs : List ℕ). xs ++ zs) (drop-zeros (length xs) n))

@@ -1,5 +1,5 @@
--- What the tree means. A reader of the public contracts needs Shape, Lists, Stored, Levels, Outcomes, Times, Walks, Sweeps, Buffers,
--- Listing, LevelMarks, DecodedLevels and Chosen; Marked has lists with what their nodes store, Promises what is shown besides the contracts. Filled,
+-- What the tree means. A reader of the public contracts needs Shape, Lists, Stored, Levels, Outcomes, Times, Walks, Sweeps, Listing,
+-- LevelMarks, DecodedLevels and Chosen; Marked has lists with what their nodes store, Promises what is shown besides the contracts. Filled,
 -- Standing, Merged and Remembering are cited by private functions alone.
 pub mod Shape
 pub mod Lists
@@ -10,7 +10,6 @@ pub mod Outcomes
 pub mod Times
 pub mod Walks
 pub mod Sweeps
-pub mod Buffers
 pub mod Listing
 pub mod DecodedLevels
 pub mod Chosen

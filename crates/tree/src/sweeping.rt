@@ -10,9 +10,10 @@ use super::targets::resumed;
 ghost use mathlib.Core.Path.{_≡_};
 ghost use Prim.Native.Nat.{_≤_};
 ghost use lib.ListN.{length};
+ghost use Rattle.codes.specs.Lists.{replaced};
 ghost use Rattle.tree.specs.Levels.{Fits};
 ghost use Rattle.tree.specs.LevelMarks.{LevelMarks};
-ghost use Rattle.tree.specs.Buffers.{replaced};
+ghost use Rattle.codes.specs.Lists.{replaced};
 ghost use Rattle.tree.specs.Times.{timesIn};
 ghost use Rattle.tree.specs.Sweeps.{sweepAnswer, sweepPositions, swept};
 

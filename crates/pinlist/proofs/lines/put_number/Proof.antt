@@ -4,8 +4,8 @@ use mathlib.Core.Path.{_≡_, sym, ap, _∙_}
 use mathlib.Core.List.{[], _∷_}
 use Prim.Native.Nat.{_+_}
 use lib.ListN.{length, take, length-append}
-use Rattle.tree.specs.Buffers.{replaced}
-use Rattle.tree.proofs.Buffers.{replaced-none, replaced-around}
+use Rattle.codes.specs.Lists.{replaced}
+use Rattle.codes.proofs.Promises.{list-laws}
 use Rattle.pinlist.specs.Texts.{decimal, numeral}
 use Rattle.pinlist.proofs.Decimals.{digits-decimal}
 use borrow.Author.Needs.{needs}
@@ -62,8 +62,8 @@ returns c =
     let a = p .before .before .before .before .before .before .args in
     let digits = p .put .ensures .0 ∙ ap (replaced (a .text .now) (a .at)) (digits-are (p .before .before .before)) in (
       rw digits
-          (sym (replaced-none _ (p .put .result + 1))
-          ∙ replaced-around (a .text .now) (a .at) (p .put .result) (decimal (a .x)) (a .after) [] (digits-end p) (omega (arith, ends p))),
+          (sym (list-laws .replaced-none _ (p .put .result + 1))
+          ∙ list-laws .replaced-around (a .text .now) (a .at) (p .put .result) (decimal (a .x)) (a .after) [] (digits-end p) (omega (arith, ends p))),
       ends p,
     )
 

@@ -6,8 +6,8 @@ use Prim.Native.Nat.{_+_, _-_, _≤_}
 use native.Mathlib.Nat.{zero-add}
 use lib.ListN.{length, getD}
 use borrow.Author.Tests.{leb-true, leb-false}
-use Rattle.tree.specs.Buffers.{replaced}
-use Rattle.tree.proofs.Buffers.{replaced-none}
+use Rattle.codes.specs.Lists.{replaced}
+use Rattle.codes.proofs.Promises.{list-laws}
 use Rattle.strip.specs.Calls.{plainList}
 use Rattle.pinlist.specs.Texts.{line, linesFrom}
 use Rattle.pinlist.proofs.Accesses.{accepted, pins-are}
@@ -26,7 +26,7 @@ abbrev μ-loop : tie.MeasureT-loop
 
 loop-holds : tie.Need-loop-holds Inv-loop μ-loop
 unfolding linesFrom
-loop-holds c = (omega arith, refl, omega arith, refl, sym (replaced-none (c .before .before .args .text .now) 0))
+loop-holds c = (omega arith, refl, omega arith, refl, sym (list-laws .replaced-none (c .before .before .args .text .now) 0))
 
 add-loop : tie.Need-add-loop Inv-loop μ-loop
 add-loop c = omega arith

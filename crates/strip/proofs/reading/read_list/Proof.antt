@@ -1,10 +1,10 @@
 -- The times stand at the front up to where listing ends, and what is told follows from them and from that end.
 use mathlib.Core.Path.{_≡_, sym, ap, subst, _∙_}
+use Rattle.codes.proofs.Promises.{list-laws}
 use Rattle.tree.specs.declared.listing.Listed.{Listed}
 use Rattle.tree.specs.Outcomes.{after}
 use Rattle.tree.specs.Listing.{accesses, listed, endOf, Lists}
 use Rattle.tree.proofs.Promises.{listing-finds}
-use Rattle.tree.proofs.Buffers.{filled-whole}
 use Rattle.strip.specs.Calls.{listIn}
 use Rattle.strip.specs.Read.{gapOr, gapOf, endIn, listRead}
 use Rattle.strip.proofs.Checks.{Front, listed-front, read-lists}
@@ -72,7 +72,7 @@ returns c =
     let a = start list .args in
     let all = c .before .before .before .before .enum-told .given .1 in
     let count = listing-finds .count (a .levels) (a .s .now) (sym (sym (ap listed all) ∙ list .list .ensures .0 .outcome)) in
-    let whole : list .list .last .0 ≡ listIn (a .s .now) (a .levels) = list .list .ensures .1 .0 ∙ filled-whole (a .levels .pins) (listIn (a .s .now) (a .levels)) count in
+    let whole : list .list .last .0 ≡ listIn (a .s .now) (a .levels) = list .list .ensures .1 .0 ∙ list-laws .filled-whole (a .levels .pins) (listIn (a .s .now) (a .levels)) count in
     (c .gap-or .ensures ∙ rw (list .before .before .before .gap-of .ensures, whole, c .before .before .end-of .ensures) (told-lists list _ all), list .list .ensures .1 .0)
 
 same-length-3 : tie.Need-same-length-3

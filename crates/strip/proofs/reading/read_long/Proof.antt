@@ -2,7 +2,7 @@
 use native.Mathlib.Omega.{arith}
 use borrow.Author.Needs.{needs}
 use Prim.Native.Nat.{_≤_}
-use Rattle.tree.proofs.Buffers.{new-room, new-front}
+use Rattle.strip.proofs.Pieces.{new-room, new-front}
 use Rattle.strip.proofs.Checks.{pins-few}
 use Rattle.strip.proofs.reading.read_long.Statement.{statement}
 use Rattle.strip.proofs.reading.read_long.Tie as tie

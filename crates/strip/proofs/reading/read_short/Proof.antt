@@ -1,6 +1,6 @@
 -- There is an entry for each pin, at the front of new arrays.
 use borrow.Author.Needs.{needs}
-use Rattle.tree.proofs.Buffers.{new-front}
+use Rattle.strip.proofs.Pieces.{new-front}
 use Rattle.strip.proofs.reading.read_short.Statement.{statement}
 use Rattle.strip.proofs.reading.read_short.Tie as tie
 

@@ -3,13 +3,13 @@ use native.Mathlib.Omega.{arith}
 use mathlib.Core.Path.{_≡_, refl, ap, _∙_}
 use mathlib.Core.List.{List}
 use Prim.Native.Nat.{ℕ}
+use native.Mathlib.Nat.{zero-add}
 use lib.ListN.{length}
-use Rattle.tree.specs.Buffers.{replaced}
+use Rattle.codes.specs.Lists.{replaced}
 use Rattle.tree.specs.Outcomes.{Outcome, refuses}
 use Rattle.tree.specs.Times.{timesIn}
 use Rattle.tree.specs.Sweeps.{sweepAnswer, sweepPositions}
 use Rattle.tree.proofs.Promises.{zero-marks}
-use Rattle.tree.proofs.Buffers.{replaced-front}
 use Rattle.strip.specs.Calls.{sweepIn, sweepOver}
 use Rattle.strip.proofs.Gaps.{not-ordered, is-ordered}
 use Rattle.strip.proofs.Sweeps.{lengths-differ, targets-fall, targets-follow}
@@ -37,7 +37,7 @@ follows : (c : tie.Else2) {o p : Outcome ℕ} {after : List ℕ} → let a = c .
 follows c o p e =
     let a = c .before .before .before .before .before .before .args in
     rw (targets-follow (a .levels) (a .targets .now) (length (a .answers .now)) (omega arith) (is-ordered (a .targets .now) (omega arith)))
-    (o ∙ p, e ∙ replaced-front (a .answers .now) (sweepPositions (a .levels .pins) (timesIn (a .levels) (a .s .now)) (a .targets .now)))
+    (o ∙ p, e ∙ rw (zero-add (length (sweepPositions (a .levels .pins) (timesIn (a .levels) (a .s .now)) (a .targets .now)))))
 
 slice-aggregate-sweep : tie.Need-slice-aggregate-sweep
 slice-aggregate-sweep c = search needs

@@ -3,11 +3,11 @@ use native.Mathlib.Omega.{arith}
 use mathlib.Core.Path.{_≡_, refl, sym, ap, _∙_}
 use Prim.Native.Nat.{_+_, _-_, _*_, _≤_}
 use lib.ListN.{length}
+use Rattle.codes.specs.Lists.{replaced}
+use Rattle.codes.proofs.Promises.{list-laws}
 use Rattle.tree.specs.Shape.{height}
 use Rattle.strip.specs.Image.{joined}
-use Rattle.tree.specs.Buffers.{replaced}
 use Rattle.strip.specs.Written.{entryIn}
-use Rattle.tree.proofs.Buffers.{replaced-none}
 use Rattle.strip.proofs.Pieces.{entries-next}
 use Rattle.strip.proofs.writing.put_entries.Statement.{statement}
 use Rattle.strip.proofs.writing.put_entries.Tie as tie
@@ -23,7 +23,7 @@ height-requires c κs = omega arith
 
 loop-holds : tie.Need-loop-holds Inv-loop μ-loop
 unfolding joined
-loop-holds c = (omega arith, refl, sym (replaced-none (c .before .before .args .out .now) 7))
+loop-holds c = (omega arith, refl, sym (list-laws .replaced-none (c .before .before .args .out .now) 7))
 
 mul-start : tie.Need-mul-start Inv-loop μ-loop
 mul-start c = omega arith

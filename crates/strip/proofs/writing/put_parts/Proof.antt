@@ -5,16 +5,16 @@ use mathlib.Core.Path.{_≡_, refl, sym, ap, _∙_}
 use mathlib.Core.List.{List, _++_}
 use Prim.Native.Nat.{ℕ, _-_, _≤_}
 use lib.ListN.{length, drop, getD}
-use borrow.Rule.Slice.PartMut.{midOf, putMid}
+use borrow.Rule.Slice.PartMut.{midOf, putMid, same-len-mid}
+use Rattle.codes.specs.Lists.{replaced}
 use Rattle.codes.specs.Codes.{part, Within}
+use Rattle.codes.proofs.Promises.{list-laws}
 use Rattle.tree.specs.Shape.{height}
 use Rattle.tree.proofs.Promises.{stored-levels}
 use Rattle.strip.specs.Layout.{partsStart}
 use Rattle.strip.specs.Image.{partFor, joined}
-use Rattle.tree.specs.Buffers.{replaced}
 use Rattle.strip.proofs.Layouts.{height-fits}
 use Rattle.strip.proofs.Plans.{plan-pins, plan-spot, level-holds}
-use Rattle.tree.proofs.Buffers.{replaced-none, replaced-more, length-replaced}
 use Rattle.strip.proofs.Pieces.{joined-next, length-lent, lent-written}
 use Rattle.strip.proofs.writing.put_parts.Statement.{statement}
 use Rattle.strip.proofs.writing.put_parts.Tie as tie
@@ -43,7 +43,7 @@ loop-holds c =
       λ j. c .before .shared-slice-known .given j .fits,
       refl,
       refl,
-      sym (replaced-none (a .out .now) (partsStart (length (a .values .now)))),
+      sym (list-laws .replaced-none (a .out .now) (partsStart (length (a .values .now)))),
     )
 
 mul-start : tie.Need-mul-start Inv-loop μ-loop
@@ -116,10 +116,10 @@ loop-again c =
       l .inv .1,
       l .inv .2,
       l .inv .3,
-      ap length now ∙ length-replaced (l .out) at (partFor values d) (omega (arith, k .room)) ∙ l .inv .4,
+      same-len-mid at (length (l .out) - at) (l .out) (enc .last .0) (enc .kept .0) ∙ l .inv .4,
       omega arith,
       now ∙ ap (λ (o : List ℕ). replaced o at (partFor values d)) (l .inv .6)
-          ∙ replaced-more (a .out .now) start at before (partFor values d) (sym (k .starts)) (omega (arith, k .room))
+          ∙ list-laws .replaced-more (a .out .now) start at before (partFor values d) (sym (k .starts)) (omega (arith, k .room))
           ∙ ap (replaced (a .out .now) start) (sym (joined-next (partFor values) d)),
     )
 

@@ -4,10 +4,10 @@ use mathlib.Core.Path.{ap, _∙_}
 use mathlib.Core.List.{List}
 use Prim.Native.Nat.{ℕ, _+_, _≤_, _<_}
 use lib.ListN.{length, getD}
+use Rattle.codes.specs.Lists.{replaced}
 use Rattle.tree.specs.Shape.{height}
 use Rattle.strip.specs.Layout.{partsStart}
 use Rattle.strip.specs.Image.{partFor, joined}
-use Rattle.tree.specs.Buffers.{replaced}
 use Rattle.strip.specs.Written.{entryIn}
 use Rattle.strip.proofs.Layouts.{height-fits}
 use Rattle.strip.proofs.Plans.{plan-pins, plan-at, length-strip, strip-written}

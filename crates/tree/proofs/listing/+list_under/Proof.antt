@@ -5,6 +5,7 @@ use mathlib.Core.List.{List}
 use Prim.Native.Nat.{ℕ, _+_, _-_, _≤_, _<_}
 use native.Mathlib.Nat.{add-zero}
 use lib.ListN.{length, set, length-set}
+use Rattle.codes.proofs.Promises.{list-laws}
 use Rattle.tree.specs.Outcomes.{gives}
 use Rattle.tree.specs.Times.{timesIn}
 use Rattle.tree.specs.declared.listing.Listed.{Listed}
@@ -12,7 +13,6 @@ use Rattle.tree.specs.Listing.{timesFrom, stopFrom, listed, endOf}
 use Rattle.tree.proofs.LevelMarks.{marks-zero}
 use Rattle.tree.proofs.NodeFetches.{Level}
 use Rattle.tree.proofs.Steps.{stands-node, stands-place, stands-level, stands-opens, stands-told, stands-time}
-use Rattle.tree.proofs.Buffers.{replaced-none}
 use Rattle.tree.proofs.Listings.{listed-refused, stands-left, stands-right, listed-left, listed-right}
 use borrow.Author.Needs.{needs}
 use borrow.Fn.Kinds.{In, Out}
@@ -66,7 +66,7 @@ returns : (t : ℕ) → lts.Need-returns (calls t) (given t) reads.Post
 unfolding stopFrom timesFrom
 returns t c =
     let a = c .before .before .before .args in
-    rw (c .if1 .taken) (record { outcome = refl; ends = refl }, sym (replaced-none (a .times .now) (a .start)))
+    rw (c .if1 .taken) (record { outcome = refl; ends = refl }, sym (list-laws .replaced-none (a .times .now) (a .start)))
 
 slice-aggregate-open-full : (t : ℕ) → lts.Need-slice-aggregate-open-full (calls t) (given t) reads.Post
 slice-aggregate-open-full t c = search needs
@@ -87,7 +87,7 @@ returns-2 t c =
     let e = stands-told (p .0) (node .open-full .result) (node .open-full .ensures .time) ∙ sym (c .refusal-of .ensures) in
     let z = listed-refused (p .0) (p .1) (omega arith) _ _ e in (
       record { outcome = sym (z .0); ends = sym (ap (λ (l : List ℕ). s .args .start + length l) (z .1) ∙ add-zero (s .args .start)) },
-      sym (rw (z .1) (replaced-none (s .args .times .now) (s .args .start))),
+      sym (rw (z .1) (list-laws .replaced-none (s .args .times .now) (s .args .start))),
     )
 
 cast-time : (t : ℕ) → lts.Need-cast-time (calls t) (given t) reads.Post

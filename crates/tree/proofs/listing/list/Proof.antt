@@ -6,14 +6,14 @@ use mathlib.Core.Logic.{⊎-elim}
 use Prim.Native.Nat.{ℕ, _+_}
 use lib.ListN.{length}
 use Rattle.codes.specs.Decode.{all}
+use Rattle.codes.proofs.Promises.{list-laws}
 use Rattle.tree.specs.Times.{timesIn}
 use Rattle.tree.specs.Listing.{timesAll}
 use Rattle.tree.specs.DecodedLevels.{decodedLevels}
 use Rattle.tree.proofs.NodeFetches.{pins-bound}
-use Rattle.tree.proofs.Buffers.{filled-whole, filled-front}
 use Rattle.tree.proofs.AllValues.{all-of, values-count, known-values}
 use Rattle.tree.proofs.Steps.{stands-root, access-start}
-use Rattle.tree.proofs.Listings.{ranks-known}
+use Rattle.tree.proofs.Listings.{ranks-known, filled-front}
 use Rattle.tree.proofs.listing.list.Statement.{statement}
 use Rattle.tree.proofs.listing.list.Tie as tie
 
@@ -42,7 +42,7 @@ returns c =
     let n : length (m .last .0) ≡ a .levels .pins = m .kept .0 ∙ sym (b .pre .1) in
     let z = ranks-known (a .levels) (a .s .now) (m .last .0) (sym n) ranks in (
       record { outcome = sym (z .1); ends = ap (λ (xs : ℕ). 0 + xs) (sym (ap length (z .0) ∙ n)) },
-      (rw (z .0) (sym (filled-whole (a .levels .pins) (m .last .0) n)), record { told = sym done; left = d .ensures .left }),
+      (rw (z .0) (sym (list-laws .filled-whole (a .levels .pins) (m .last .0) n)), record { told = sym done; left = d .ensures .left }),
     )
 
 -- as many entries as before

@@ -8,17 +8,17 @@ use native.Mathlib.Numerals.{add-one}
 use borrow.Author.Needs.{needs}
 use lib.ListN.{length, getD, drop, drop-of-length-le, length-set}
 use lib.Seq.{drop-cons}
+use Rattle.codes.specs.Lists.{replaced}
+use Rattle.codes.proofs.Promises.{list-laws}
 use Rattle.tree.specs.declared.targets.Ending.{Ending}
 use Rattle.tree.specs.declared.targets.Ending.the-variants.{At}
 use Rattle.tree.specs.LevelMarks.{LevelMarks}
-use Rattle.tree.specs.Buffers.{replaced}
 use Rattle.tree.specs.Outcomes.{gives, verdict}
 use Rattle.tree.specs.Times.{timesIn}
 use Rattle.tree.specs.Walks.{met}
 use Rattle.tree.specs.Sweeps.{legsFrom, opened, sweepAnswer, positions, sweepPositions}
 use Rattle.tree.specs.Remembering.{entries, GoesOn, Leaves}
 use Rattle.tree.proofs.NodeFetches.{pins-bound}
-use Rattle.tree.proofs.Buffers.{replaced-none, replaced-next}
 use Rattle.tree.proofs.Remembering.{goes-root, count-in}
 use Rattle.tree.proofs.Dropping.{Resumes, resumes, sweepOn, positionsOn, sweep-stopped, sweep-next}
 use Rattle.tree.proofs.sweeping.sweep.Statement.{statement}
@@ -126,7 +126,7 @@ returns c =
     let d = sweep-stopped (goes (resuming down)) (drop (l .i + 1) (a .targets .now)) e in (
       sym (l .inv .3 ∙ rw (first (turn down)) (d .0)),
       (
-        sym (l .inv .4 ∙ rw (first (turn down)) (ap (replaced (l .answers) (l .i)) (d .1)) ∙ replaced-none (l .answers) (l .i)),
+        sym (l .inv .4 ∙ rw (first (turn down)) (ap (replaced (l .answers) (l .i)) (d .1)) ∙ list-laws .replaced-none (l .answers) (l .i)),
         down .go-down .ensures .1,
       ),
     )
@@ -174,7 +174,7 @@ loop-again c =
       length-set (l .answers) (l .i) _ ∙ l .inv .1,
       k .0 .goes,
       l .inv .3 ∙ rw (first in-loop) (d .0),
-      l .inv .4 ∙ rw (first in-loop) (ap (replaced (l .answers) (l .i)) (d .1)) ∙ sym (replaced-next (l .answers) (l .i) _ _ (room in-loop)),
+      l .inv .4 ∙ rw (first in-loop) (ap (replaced (l .answers) (l .i)) (d .1)) ∙ sym (list-laws .replaced-next (l .answers) (l .i) _ _ (room in-loop)),
       down .go-down .ensures .1,
       down .go-down .kept .1 .1 .0 ∙ l .inv .6,
     )
@@ -191,7 +191,7 @@ returns-2 c =
     let a = start (c .before) .args in
     let l = c .before .loop in
     let d : drop (l .i) (a .targets .now) ≡ [] = drop-of-length-le (a .targets .now) {i = l .i} (omega arith) in
-    (sym (l .inv .3 ∙ rw d (ap gives (add-zero (l .progress .opened)))), (sym (l .inv .4 ∙ rw d (replaced-none (l .answers) (l .i))), l .inv .5))
+    (sym (l .inv .3 ∙ rw d (ap gives (add-zero (l .progress .opened)))), (sym (l .inv .4 ∙ rw d (list-laws .replaced-none (l .answers) (l .i))), l .inv .5))
 
 pub sweep-spec : {M : Type 1} → statement M
 sweep-spec =
