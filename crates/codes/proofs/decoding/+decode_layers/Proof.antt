@@ -97,21 +97,26 @@ decode-layers-requires t c κs = omega arith
 same-length : (t : ℕ) → lts.Need-same-length (calls t) (given t) reads.Post
 same-length t c = omega arith
 
+-- the start, seen from where the ones are counted
+abbrev start : (t : ℕ) → lts.After-count-ones (calls t) (given t) reads.Post → lts.Start (calls t) (given t) reads.Post
+start t c = c .before .before .before .before .before .before
+
 -- the layer with those after it
-layered-at : (t : ℕ) (c : lts.After-count-ones (calls t) (given t) reads.Post) → let a = c .before .before .before .before .before .before .args in
+layered-at : (t : ℕ) (c : lts.After-count-ones (calls t) (given t) reads.Post) → let a = start t c .args in
     let bits = bitsOf (a .part .now) in
     decodedLayers (a .layers) (a .b) (a .n) (drop (a .at) bits)
     ≡ layered (a .b) (take (a .n) (drop (a .at) bits)) (drop (a .n) (drop (a .at) bits)) (decodedLayers (a .layers - 1) (a .b) (c .count-ones .result) (drop (a .at + a .n + a .n * a .b) bits))
 layered-at t c =
-    let a = c .before .before .before .before .before .before .args in
+    let a = start t c .args in
     let e : a .at + a .n - a .at ≡ a .n = omega arith in
     layers-at (a .layers) (a .b) (a .n) (a .at) (c .count-ones .result) (bitsOf (a .part .now)) (omega arith) (rw (length-fixed 8 (a .part .now)) (omega arith)) (rw e at (c .count-ones .ensures .1))
 
 returns-4 : (t : ℕ) → lts.Need-returns-4 (calls t) (given t) reads.Post
 returns-4 t c =
-    let a = c .before .before .before .before .before .before .before .before .before .before .before .args in
     let d = c .before .before .before .decode-layers in
-    rw (layered-at t (c .before .before .before .before .before), says-no (decodedLayers (a .layers - 1) (a .b) (c .before .before .before .before .before .count-ones .result) (drop (a .at + a .n + a .n * a .b) (bitsOf (a .part .now)))) {r = d .result} (take (c .before .before .before .before .before .count-ones .result) (d .last .0)) (not-true (d .result) (c .if4 .taken)) (d .ensures)) refl
+    let ones = c .before .before .before .before .before in
+    let a = start t ones .args in
+    rw (layered-at t ones, says-no (decodedLayers (a .layers - 1) (a .b) (ones .count-ones .result) (drop (a .at + a .n + a .n * a .b) (bitsOf (a .part .now)))) {r = d .result} (take (ones .count-ones .result) (d .last .0)) (not-true (d .result) (c .if4 .taken)) (d .ensures)) refl
 
 all-small-requires : (t : ℕ) → lts.Need-all-small-requires (calls t) (given t) reads.Post
 all-small-requires t c κs = omega arith
@@ -121,14 +126,15 @@ same-length-2 t c = omega arith
 
 returns-5 : (t : ℕ) → lts.Need-returns-5 (calls t) (given t) reads.Post
 returns-5 t c =
-    let a = c .before .before .before .before .before .before .before .before .before .before .before .before .before .before .args in
     let d = c .before .before .before .before .before .before .decode-layers in
-    let rests = take (c .before .before .before .before .before .before .before .before .count-ones .result) (d .last .0) in
-    rw (layered-at t (c .before .before .before .before .before .before .before .before), says-yes (decodedLayers (a .layers - 1) (a .b) (c .before .before .before .before .before .before .before .before .count-ones .result) (drop (a .at + a .n + a .n * a .b) (bitsOf (a .part .now)))) {r = d .result} rests (not-false (d .result) (c .before .before .before .if4 .left)) (d .ensures), sym (c .before .all-small .ensures) ∙ not-true (c .before .all-small .result) (c .if5 .taken)) refl
+    let ones = c .before .before .before .before .before .before .before .before in
+    let a = start t ones .args in
+    let rests = take (ones .count-ones .result) (d .last .0) in
+    rw (layered-at t ones, says-yes (decodedLayers (a .layers - 1) (a .b) (ones .count-ones .result) (drop (a .at + a .n + a .n * a .b) (bitsOf (a .part .now)))) {r = d .result} rests (not-false (d .result) (c .before .before .before .if4 .left)) (d .ensures), sym (c .before .all-small .ensures) ∙ not-true (c .before .all-small .result) (c .if5 .taken)) refl
 
 merge-requires : (t : ℕ) → lts.Need-merge-requires (calls t) (given t) reads.Post
 merge-requires t c κs =
-    let a = c .before .before .before .before .before .before .before .before .before .before .before .before .before .before .before .args in
+    let a = start t (c .before .before .before .before .before .before .before .before .before) .args in
     let r = c .before .before .before .before .before .before .before .before .before .count-ones in
     let d = c .before .before .before .before .before .before .before .decode-layers .last .0 in
     let e : a .at + a .n - a .at ≡ a .n = omega arith in
@@ -141,10 +147,12 @@ same-length-3 t c = omega arith
 
 returns-6 : (t : ℕ) → lts.Need-returns-6 (calls t) (given t) reads.Post
 returns-6 t c =
-    let a = c .before .before .before .before .before .before .before .before .before .before .before .before .before .before .before .before .before .before .args in
-    let d = c .before .before .before .before .before .before .before .before .before .before .decode-layers in
-    let rests = take (c .before .before .before .before .before .before .before .before .before .before .before .before .count-ones .result) (d .last .0) in
-    rw (layered-at t (c .before .before .before .before .before .before .before .before .before .before .before .before), says-yes (decodedLayers (a .layers - 1) (a .b) (c .before .before .before .before .before .before .before .before .before .before .before .before .count-ones .result) (drop (a .at + a .n + a .n * a .b) (bitsOf (a .part .now)))) {r = d .result} rests (not-false (d .result) (c .before .before .before .before .before .before .before .if4 .left)) (d .ensures), sym (c .before .before .before .before .before .all-small .ensures) ∙ not-false (c .before .before .before .before .before .all-small .result) (c .before .before .before .before .if5 .left)) (refl, c .before .before .merge .ensures)
+    let small = c .before .before .before .before .before in
+    let d = small .before .before .before .before .before .decode-layers in
+    let ones = small .before .before .before .before .before .before .before in
+    let a = start t ones .args in
+    let rests = take (ones .count-ones .result) (d .last .0) in
+    rw (layered-at t ones, says-yes (decodedLayers (a .layers - 1) (a .b) (ones .count-ones .result) (drop (a .at + a .n + a .n * a .b) (bitsOf (a .part .now)))) {r = d .result} rests (not-false (d .result) (small .before .before .if4 .left)) (d .ensures), sym (small .all-small .ensures) ∙ not-false (small .all-small .result) (c .before .before .before .before .if5 .left)) (refl, c .before .before .merge .ensures)
 
 pub +decode-layers-spec : {M : Type 1} → statement M
 +decode-layers-spec = close μ λ t. lts.spec (calls t)

@@ -64,11 +64,12 @@ loop-less c = omega arith
 
 loop-again : tie.Need-loop-again Inv-loop μ-loop
 loop-again c =
-    let a = c .before .before .before .before .before .before .before .before .before .before .before .before .before .before .args in
-    let l = c .before .before .before .before .before .before .before .before .before .before .loop in
+    let word = c .before .before .before .before .before .before .before .before in
+    let a = word .before .before .before .before .before .before .args in
+    let l = word .before .before .loop in
     let one = c .before .before .before .before .before .before .put-two .ensures in
     let two = c .before .before .put-two2 .ensures in
-    let r = c .before .before .before .before .before .before .before .before .read-word in
+    let r = word .read-word in
     let t : l .i + 4 ≤ length (a .values .now) = omega arith in
     let room = mul-le-mul-right (a .w) t in
     let p : (l .i + 2) * a .w ≡ l .i * a .w + 2 * a .w = omega arith in

@@ -52,6 +52,16 @@ loop-holds c =
       h .1,
     )
 
+abbrev start : tie.At-loop Inv-loop μ-loop → tie.Start Inv-loop μ-loop
+start c = c .before .before .before .before
+
+-- seen from where the chunk is read: where the layer is whole, and the loop
+abbrev whole : tie.After-chunk-at Inv-loop μ-loop → tie.Then2 Inv-loop μ-loop
+whole c = c .before .before .before
+
+abbrev at-loop : tie.After-chunk-at Inv-loop μ-loop → tie.At-loop Inv-loop μ-loop
+at-loop c = whole c .before .before .before .before
+
 mul-if2 : tie.Need-mul-if2 Inv-loop μ-loop
 mul-if2 c = omega arith
 
@@ -81,8 +91,9 @@ same-length c = omega arith
 
 returns-2 : tie.Need-returns-2 Inv-loop μ-loop
 returns-2 c =
-    let l = c .before .before .before .before .before .before .before .before .loop in
-    let a = c .before .before .before .before .before .before .before .before .before .before .before .before .args in
+    let here = at-loop (c .before) in
+    let l = here .loop in
+    let a = start here .args in
     let bs = bitsOf (a .part .now) in
     (sym (answer-over bs (length-fixed 8 (a .part .now)) (a .b) (l .layer .at) (l .layer .count) (l .layer .index) (l .shift) (l .acc) (l .inv .0) (omega arith) (omega arith)) ∙ l .inv .8, l .inv .11)
 
@@ -100,21 +111,20 @@ same-length-2 c = omega arith
 
 returns-3 : tie.Need-returns-3 Inv-loop μ-loop
 returns-3 c =
-    let l = c .before .before .before .before .before .before .before .before .before .before .before .loop in
-    let a = c .before .before .before .before .before .before .before .before .before .before .before .before .before .before .before .args in
+    let here = at-loop (c .before .before .before .before) in
+    let l = here .loop in
+    let a = start here .args in
     let bs = bitsOf (a .part .now) in
     (ap value (omega arith) ∙ sym (answer-last bs (length-fixed 8 (a .part .now)) (a .b) (l .layer .at) (l .layer .count) (l .layer .index) (l .shift) (l .acc) (l .inv .0) (omega arith) (omega arith) (omega arith)) ∙ l .inv .8, l .inv .11)
 
 next-layer-requires : tie.Need-next-layer-requires Inv-loop μ-loop
-next-layer-requires c κs =
-    let l = c .before .before .before .before .before .before .before .before .before .before .before .before .loop in
-    (omega arith, (omega arith, l .inv .11))
+next-layer-requires c κs = (omega arith, (omega arith, at-loop (c .before .before .before .before .before) .loop .inv .11))
 
 add-k : tie.Need-add-k Inv-loop μ-loop
 add-k c =
-    let l = c .before .before .before .before .before .before .before .before .before .before .before .before .before .before .before .loop in
-    let s = c .before .before .before .before .before .before .before .before .before .before .before .before .before .before .before .before .before .before .before in
-    omega (arith, l .inv .4, l .inv .5, l .inv .9, s .pre .0 .3)
+    let here = at-loop (c .before .before .before .before .before .before .before .before) in
+    let l = here .loop in
+    omega (arith, l .inv .4, l .inv .5, l .inv .9, start here .pre .0 .3)
 
 add-least : tie.Need-add-least Inv-loop μ-loop
 add-least c = omega arith
@@ -127,15 +137,14 @@ loop-less c = omega arith
 
 loop-again : tie.Need-loop-again Inv-loop μ-loop
 loop-again c =
-    let l = c .before .before .before .before .before .before .before .before .before .before .before .before .before .before .before .before .loop in
-    let s = c .before .before .before .before .before .before .before .before .before .before .before .before .before .before .before .before .before .before .before .before in
+    let l = at-loop (c .before .before .before .before .before .before .before .before .before) .loop in
+    let s = start (at-loop (c .before .before .before .before .before .before .before .before .before)) in
     let a = s .args in
     let bs = bitsOf (a .part .now) in
     let one : number (take 1 (drop (l .layer .at + l .layer .index) bs)) ≡ 0 → ⊥ = λ z. omega arith in
     let more = answer-more bs (length-fixed 8 (a .part .now)) (a .b) (l .layer .at) (l .layer .count) (l .layer .index) (l .shift) (l .acc) (l .inv .0) (omega arith) one in
     let to = c .before .before .before .next-layer in
     let t = to .ensures .0 in
-    let whole = c .before .before .before .before .before .before .before .before .before .before .before .before .if2 .taken in
     let k : to .result .index < to .result .count = omega (arith, t .index-is, t .count-is) in
     let few : to .result .count ≤ l .layer .count = omega (arith, t .count-is, sum-part-le (a .part .now) (l .layer .at) (l .layer .count)) in (
       k,
@@ -143,7 +152,7 @@ loop-again c =
       mul-le-mul-left (to .result .count) (s .pre .0 .1),
       omega (arith, mul-le-mul-right (a .b) k),
       refl,
-      omega (arith, t .begins, whole, l .inv .5),
+      omega (arith, t .begins, whole (c .before .before .before .before .before .before .before .before .before) .if2 .taken, l .inv .5),
       omega arith,
       omega arith,
       rw (t .count-is, t .index-is, t .begins, c .least .ensures, c .before .before .before .before .before .before .before .before .before .chunk-at .ensures .1) (sym (more .1) ∙ l .inv .8),
@@ -158,7 +167,7 @@ same-length-3 c = omega arith
 returns-4 : tie.Need-returns-4 Inv-loop μ-loop
 returns-4 c =
     let l = c .before .before .before .before .loop in
-    let a = c .before .before .before .before .before .before .before .before .args in
+    let a = start (c .before .before .before .before) .args in
     let bs = bitsOf (a .part .now) in
     (sym (answer-short bs (length-fixed 8 (a .part .now)) (a .b) (l .layer .at) (l .layer .count) (l .layer .index) (l .shift) (l .acc) (l .inv .0) (omega arith)) ∙ l .inv .8, l .inv .11)
 

@@ -45,23 +45,28 @@ sub-least c = omega arith
 least-requires : tie.Need-least-requires Inv-loop μ-loop
 least-requires c κs = omega arith
 
+-- the start, seen from where it is known how many go in
+abbrev start : tie.After-least Inv-loop μ-loop → tie.Start Inv-loop μ-loop
+start c = c .before .before .before .before .before
+
 joined-chunks-requires : tie.Need-joined-chunks-requires Inv-loop μ-loop
 joined-chunks-requires c κs =
-    let b = c .before .before .before .before .before .before .args .radix .bits in
+    let b = start (c .before) .args .radix .bits in
     let t : c .before .least .result ≤ 32 / b = omega arith in
     ((omega arith, omega arith, omega arith), (omega arith, fits b _ t))
 
 mul-put : tie.Need-mul-put Inv-loop μ-loop
 mul-put c =
-    let b = c .before .before .before .before .before .before .before .before .before .before .args .radix .bits in
+    let b = start (c .before .before .before .before .before) .args .radix .bits in
     let t : c .before .before .before .before .before .least .result ≤ 32 / b = omega arith in
     omega (arith, fits b _ t)
 
 put-requires : tie.Need-put-requires Inv-loop μ-loop
 put-requires c κs =
-    let l = c .before .before .before .before .before .before .before .loop in
-    let a = c .before .before .before .before .before .before .before .before .before .before .args in
-    let k = c .before .before .before .before .before .least .result in
+    let turn = c .before .before .before .before .before in
+    let l = turn .before .before .loop in
+    let a = start turn .args in
+    let k = turn .least .result in
     let g = c .before .before .before .joined-chunks in
     let w = l .inv .5 in
     let t : k ≤ 32 / a .radix .bits = omega arith in
@@ -78,17 +83,18 @@ add-i c = omega arith
 
 loop-less : tie.Need-loop-less Inv-loop μ-loop
 loop-less c =
-    let a = c .before .before .before .before .before .before .before .before .before .before .before .before .before .args in
+    let a = start (c .before .before .before .before .before .before .before .before) .args in
     let some = some-fit (a .radix .bits) (omega arith) (omega arith) in
     omega arith
 
 loop-again : tie.Need-loop-again Inv-loop μ-loop
 loop-again c =
-    let l = c .before .before .before .before .before .before .before .before .before .before .loop in
-    let a = c .before .before .before .before .before .before .before .before .before .before .before .before .before .args in
+    let turn = c .before .before .before .before .before .before .before .before in
+    let l = turn .before .before .loop in
+    let a = start turn .args in
     let us = a .values .now in
     let ds = l .inv .3 in
-    let k = c .before .before .before .before .before .before .before .before .least .result in
+    let k = turn .least .result in
     let g = c .before .before .before .before .before .before .joined-chunks in
     let u = c .before .before .put .ensures in
     let vs = take k (drop (l .i) us) in

@@ -39,6 +39,13 @@ unfolding tally
 loop-holds c =
     (omega arith, (c .tally-first .ok .1 .0 .1, omega arith, omega arith, omega arith), λ z. omega (arith, c .tally-first .ensures z), λ z. zeros-at 33 z, λ z. zeros-at 33 z, λ z. zeros-at 33 z)
 
+abbrev values : tie.At-loop Inv-loop μ-loop → List ℕ
+values c = c .before .before .before .args .values .now
+
+-- the loop, seen from where two are counted
+abbrev at-loop : tie.After-count2 Inv-loop μ-loop → tie.At-loop Inv-loop μ-loop
+at-loop c = c .before .before .before .before .before .before .before
+
 add-count : tie.Need-add-count Inv-loop μ-loop
 add-count c = omega arith
 
@@ -51,7 +58,7 @@ shared-slice-read-count c = omega arith
 count-requires : tie.Need-count-requires Inv-loop μ-loop
 count-requires c κs =
     let l = c .before .before .before .loop in
-    let vs = c .before .before .before .before .before .before .args .values .now in
+    let vs = values (c .before .before .before) in
     (l .inv .1 .0, λ z. omega (arith, l .inv .2 z, tally-few z (length vs % 4) vs, tally-few z (l .i) (drop (length vs % 4) vs)))
 
 add-count-2 : tie.Need-add-count-2 Inv-loop μ-loop
@@ -69,7 +76,7 @@ shared-slice-read-count-2 c = omega arith
 count-requires-2 : tie.Need-count-requires-2 Inv-loop μ-loop
 count-requires-2 c κs =
     let l = c .before .before .before .before .before .before .loop in
-    let vs = c .before .before .before .before .before .before .before .before .before .args .values .now in
+    let vs = values (c .before .before .before .before .before .before) in
     (l .inv .1 .1, λ z. omega (arith, l .inv .3 z, tally-few z (l .i) (drop (length vs % 4 + length vs / 4) vs)))
 
 mul-count-3 : tie.Need-mul-count-3 Inv-loop μ-loop
@@ -89,8 +96,9 @@ shared-slice-read-count-3 c = omega arith
 
 count-requires-3 : tie.Need-count-requires-3 Inv-loop μ-loop
 count-requires-3 c κs =
-    let l = c .before .before .before .before .before .before .before .before .before .loop in
-    let vs = c .before .before .before .before .before .before .before .before .before .before .before .before .args .values .now in
+    let here = at-loop (c .before .before) in
+    let l = here .loop in
+    let vs = values here in
     (l .inv .1 .2, λ z. omega (arith, l .inv .4 z, tally-few z (l .i) (drop (length vs % 4 + length vs / 4 * 2) vs)))
 
 mul-count-5 : tie.Need-mul-count-5 Inv-loop μ-loop
@@ -110,8 +118,9 @@ shared-slice-read-count-4 c = omega arith
 
 count-requires-4 : tie.Need-count-requires-4 Inv-loop μ-loop
 count-requires-4 c κs =
-    let l = c .before .before .before .before .before .before .before .before .before .before .before .before .loop in
-    let vs = c .before .before .before .before .before .before .before .before .before .before .before .before .before .before .before .args .values .now in
+    let here = at-loop (c .before .before .before .before .before) in
+    let l = here .loop in
+    let vs = values here in
     (l .inv .1 .3, λ z. omega (arith, l .inv .5 z, tally-few z (l .i) (drop (length vs % 4 + length vs / 4 * 3) vs)))
 
 add-i : tie.Need-add-i Inv-loop μ-loop
@@ -122,8 +131,9 @@ loop-less c = omega arith
 
 loop-again : tie.Need-loop-again Inv-loop μ-loop
 loop-again c =
-    let l = c .before .before .before .before .before .before .before .before .before .before .before .before .before .loop in
-    let vs = c .before .before .before .before .before .before .before .before .before .before .before .before .before .before .before .before .args .values .now in
+    let here = at-loop (c .before .before .before .before .before .before) in
+    let l = here .loop in
+    let vs = values here in
     let a = length vs % 4 in
     let q = length vs / 4 in
     let first = c .before .before .before .before .before .before .before .before .before .count .ensures in
@@ -141,7 +151,7 @@ loop-again c =
 sums-requires : tie.Need-sums-requires Inv-loop μ-loop
 sums-requires c κs =
     let l = c .before .before .before .before .before .loop in
-    let vs = c .before .before .before .before .before .before .before .before .args .values .now in
+    let vs = values (c .before .before .before .before .before) in
     λ z.
     omega (
       arith,
@@ -152,7 +162,7 @@ sums-requires c κs =
 returns : tie.Need-returns Inv-loop μ-loop
 returns c =
     let l = c .before .before .before .before .before .before .loop in
-    let vs = c .before .before .before .before .before .before .before .before .before .args .values .now in
+    let vs = values (c .before .before .before .before .before .before) in
     c .sums .ensures vs (record {
       each = all vs (l .first) (l .second) (l .third) (l .fourth) (length vs % 4) (length vs / 4) (l .i) (omega arith) (omega arith) (l .inv .2) (l .inv .3) (l .inv .4) (l .inv .5);
       within = λ j. c .before .before .before .before .before .before .before .before .shared-slice-known .given j .fits;

@@ -47,21 +47,25 @@ returns t c = c .before .before .fill-few .ensures
 root-place-requires : (t : ℕ) → lts.Need-root-place-requires (calls t) (given t) reads.Post
 root-place-requires t c κs = tt
 
+abbrev Placed : ℕ → Type 0
+Placed t = lts.After-root-place (calls t) (given t) reads.Post
+
+-- the start, seen from where the pins are more than few
+abbrev start : (t : ℕ) → lts.Else1 (calls t) (given t) reads.Post → lts.Start (calls t) (given t) reads.Post
+start t c = c .before .before .before
+
 -- a stretch that has pins is that of a node
-node-in : (t : ℕ) (c : lts.After-root-place (calls t) (given t) reads.Post) → let a = c .before .before .before .before .args in a .v ≤ length (a .times .now)
-node-in t c =
-    let p = c .before .before .before .before .pre .1 in
-    fill-node (c .before .before .before .before .args .times .now) (p .1 .0 .1) (p .1 .1 .0) (omega arith)
+node-in : (t : ℕ) (c : Placed t) → let a = start t (c .before) .args in a .v ≤ length (a .times .now)
+node-in t c = let p = start t (c .before) .pre .1 .1 in fill-node (start t (c .before) .args .times .now) (p .0 .1) (p .1 .0) (omega arith)
 
 -- its place
-placed : (t : ℕ) (c : lts.After-root-place (calls t) (given t) reads.Post) → (1 ≤ c .root-place .result) × (c .root-place .result ≤ c .before .before .before .before .args .pins)
-placed t c = rw (c .root-place .ensures) (place-in (c .before .before .before .before .args .pins) (omega arith))
+placed : (t : ℕ) (c : Placed t) → (1 ≤ c .root-place .result) × (c .root-place .result ≤ start t (c .before) .args .pins)
+placed t c = rw (c .root-place .ensures) (place-in (start t (c .before) .args .pins) (omega arith))
 
 -- the sides of seven pins have no more than three
-few : (t : ℕ) (c : lts.After-root-place (calls t) (given t) reads.Post) → let a = c .before .before .before .before .args in
-    a .pins ≤ 7 → (c .root-place .result ≤ 4) × (a .pins ≤ c .root-place .result + 3)
+few : (t : ℕ) (c : Placed t) → let a = start t (c .before) .args in a .pins ≤ 7 → (c .root-place .result ≤ 4) × (a .pins ≤ c .root-place .result + 3)
 few t c h =
-    let m = c .before .before .before .before .args .pins in
+    let m = start t (c .before) .args .pins in
     rw (c .root-place .ensures) (omega (arith, place-law 1 m (m - 3) (omega arith) (omega arith)))
 
 add-fill-node : (t : ℕ) → lts.Need-add-fill-node (calls t) (given t) reads.Post
@@ -72,10 +76,18 @@ sub-fill-node t c = omega (arith, placed t (c .before))
 
 fill-node-requires : (t : ℕ) → lts.Need-fill-node-requires (calls t) (given t) reads.Post
 fill-node-requires t c κs =
-    let a = c .before .before .before .before .before .args in
-    let p = c .before .before .before .before .before .pre .1 in
-    let q = placed t (c .before) in
-    (p .0, ((omega arith, p .1 .0 .1, node-in t (c .before), omega arith), (rw (c .before .root-place .ensures) (fill-time (a .times .now) (p .1 .0 .1) (p .1 .1 .0)), p .1 .1 .2)))
+    let here = c .before in
+    let a = start t (here .before) .args in
+    let p = start t (here .before) .pre .1 in
+    let q = placed t here in
+    (p .0, ((omega arith, p .1 .0 .1, node-in t here, omega arith), (rw (here .root-place .ensures) (fill-time (a .times .now) (p .1 .0 .1) (p .1 .1 .0)), p .1 .1 .2)))
+
+-- after the node's entry: where the second side of a few pins is next, and of more
+abbrev node-few : (t : ℕ) → lts.After-fill-few-arg3 (calls t) (given t) reads.Post → lts.After-fill-node (calls t) (given t) reads.Post
+node-few t c = c .before .before .before .before .before .before .before .before
+
+abbrev node : (t : ℕ) → lts.After-fill-arg2 (calls t) (given t) reads.Post → lts.After-fill-node (calls t) (given t) reads.Post
+node t c = c .before .before .before .before .before .before .before .before
 
 sub-fill-few : (t : ℕ) → lts.Need-sub-fill-few (calls t) (given t) reads.Post
 sub-fill-few t c = omega (arith, placed t (c .before .before .before .before .before .before))
@@ -86,45 +98,50 @@ mul-fill-few t c = omega (arith, node-in t (c .before .before .before .before .b
 fill-few-requires-2 : (t : ℕ) → lts.Need-fill-few-requires-2 (calls t) (given t) reads.Post
 unfolding childOf
 fill-few-requires-2 t c κs =
-    let a = c .before .before .before .before .before .before .before .before .before .before .args in
-    let p = c .before .before .before .before .before .before .before .before .before .before .pre .1 in
-    let q = placed t (c .before .before .before .before .before .before) in
-    let f = few t (c .before .before .before .before .before .before) (omega arith) in
-    let room : length (a .times .now) ≤ length (c .before .before .before .before .fill-node .last .0) = omega arith in
-    (p .0, ((room, omega arith, omega arith), (rw (c .before .before .before .before .before .before .root-place .ensures) (is-child false (length (a .times .now)) (p .1 .0 .1) (p .1 .1 .0)), omega arith, above-side false (a .times .now) (a .v) (p .1 .0 .1) ∙ sym (c .before .before .before .before .fill-node .ensures .0))))
+    let put = c .before .before .before .before in
+    let here = put .before .before in
+    let a = start t (here .before) .args in
+    let p = start t (here .before) .pre .1 in
+    let q = placed t here in
+    let f = few t here (omega arith) in
+    let room : length (a .times .now) ≤ length (put .fill-node .last .0) = omega arith in
+    (p .0, ((room, omega arith, omega arith), (rw (here .root-place .ensures) (is-child false (length (a .times .now)) (p .1 .0 .1) (p .1 .1 .0)), omega arith, above-side false (a .times .now) (a .v) (p .1 .0 .1) ∙ sym (put .fill-node .ensures .0))))
 
 add-fill-few : (t : ℕ) → lts.Need-add-fill-few (calls t) (given t) reads.Post
-add-fill-few t c = omega (arith, placed t (c .before .before .before .before .before .before .before .before .before .before))
+add-fill-few t c = omega (arith, placed t (node-few t c .before .before))
 
 sub-fill-few-2 : (t : ℕ) → lts.Need-sub-fill-few-2 (calls t) (given t) reads.Post
-sub-fill-few-2 t c = omega (arith, placed t (c .before .before .before .before .before .before .before .before .before .before))
+sub-fill-few-2 t c = omega (arith, placed t (node-few t c .before .before))
 
 mul-fill-few-2 : (t : ℕ) → lts.Need-mul-fill-few-2 (calls t) (given t) reads.Post
-mul-fill-few-2 t c = omega (arith, node-in t (c .before .before .before .before .before .before .before .before .before .before))
+mul-fill-few-2 t c = omega (arith, node-in t (node-few t c .before .before))
 
 add-fill-few-2 : (t : ℕ) → lts.Need-add-fill-few-2 (calls t) (given t) reads.Post
-add-fill-few-2 t c = omega (arith, node-in t (c .before .before .before .before .before .before .before .before .before .before))
+add-fill-few-2 t c = omega (arith, node-in t (node-few t c .before .before))
 
 fill-few-requires-3 : (t : ℕ) → lts.Need-fill-few-requires-3 (calls t) (given t) reads.Post
 unfolding childOf
 fill-few-requires-3 t c κs =
-    let a = c .before .before .before .before .before .before .before .before .before .before .before .before .before .before .args in
-    let p = c .before .before .before .before .before .before .before .before .before .before .before .before .before .before .pre .1 in
-    let q = placed t (c .before .before .before .before .before .before .before .before .before .before) in
-    let f = few t (c .before .before .before .before .before .before .before .before .before .before) (omega arith) in
+    let here = node-few t c .before .before in
+    let a = start t (here .before) .args in
+    let p = start t (here .before) .pre .1 in
+    let q = placed t here in
+    let f = few t here (omega arith) in
     let room : length (a .times .now) ≤ length (c .before .before .before .fill-few2 .last .0) = omega arith in
-    (p .0, ((room, omega arith, omega arith), (rw (c .before .before .before .before .before .before .before .before .before .before .root-place .ensures) (is-child true (length (a .times .now)) (p .1 .0 .1) (p .1 .1 .0)), omega arith, above-side true (a .times .now) (a .v) (p .1 .0 .1) ∙ sym (c .before .before .before .before .before .before .before .before .fill-node .ensures .0))))
+    (p .0, ((room, omega arith, omega arith), (rw (here .root-place .ensures) (is-child true (length (a .times .now)) (p .1 .0 .1) (p .1 .1 .0)), omega arith, above-side true (a .times .now) (a .v) (p .1 .0 .1) ∙ sym (node-few t c .fill-node .ensures .0))))
 
 same-length-2 : (t : ℕ) → lts.Need-same-length-2 (calls t) (given t) reads.Post
 same-length-2 t c = omega arith
 
 returns-2 : (t : ℕ) → lts.Need-returns-2 (calls t) (given t) reads.Post
 returns-2 t c =
-    let a = c .before .before .before .before .before .before .before .before .before .before .before .before .before .before .before .before .before .args in
-    let p = c .before .before .before .before .before .before .before .before .before .before .before .before .before .before .before .before .before .pre .1 in
-    let k = node-in t (c .before .before .before .before .before .before .before .before .before .before .before .before .before) in
-    filled-node (a .times .now) (a .v) (a .values .now) (c .before .before .before .before .before .before .before .before .before .before .before .fill-node .last .0) (c .before .before .before .before .before .before .fill-few2 .last .0) (c .before .before .fill-few3 .last .0)
-    (p .1 .0 .1) k (omega (arith, k)) (c .before .before .before .before .before .before .before .before .before .before .before .fill-node .ensures .1) (c .before .before .before .before .before .before .fill-few2 .ensures) (c .before .before .fill-few3 .ensures)
+    let put = node-few t (c .before .before .before) .fill-node in
+    let left = c .before .before .before .before .before .before .fill-few2 in
+    let right = c .before .before .fill-few3 in
+    let here = node-few t (c .before .before .before) .before .before in
+    let a = start t (here .before) .args in
+    let k = node-in t here in
+    filled-node (a .times .now) (a .v) (a .values .now) (put .last .0) (left .last .0) (right .last .0) (start t (here .before) .pre .1 .1 .0 .1) k (omega (arith, k)) (put .ensures .1) (left .ensures) (right .ensures)
 
 sub-fill : (t : ℕ) → lts.Need-sub-fill (calls t) (given t) reads.Post
 sub-fill t c = omega (arith, placed t (c .before .before .before .before .before .before))
@@ -135,43 +152,48 @@ mul-fill t c = omega (arith, node-in t (c .before .before .before .before .befor
 fill-requires : (t : ℕ) → lts.Need-fill-requires (calls t) (given t) reads.Post
 unfolding childOf
 fill-requires t c κs =
-    let a = c .before .before .before .before .before .before .before .before .before .before .args in
-    let p = c .before .before .before .before .before .before .before .before .before .before .pre .1 in
-    let q = placed t (c .before .before .before .before .before .before) in
-    let room : length (a .times .now) ≤ length (c .before .before .before .before .fill-node .last .0) = omega arith in
-    (omega (arith, c .before .before .before .before .before .before .before .before .before .before .pre .0), (p .0, ((room, omega arith), (rw (c .before .before .before .before .before .before .root-place .ensures) (is-child false (length (a .times .now)) (p .1 .0 .1) (p .1 .1 .0)), omega arith, above-side false (a .times .now) (a .v) (p .1 .0 .1) ∙ sym (c .before .before .before .before .fill-node .ensures .0)))))
+    let put = c .before .before .before .before in
+    let here = put .before .before in
+    let a = start t (here .before) .args in
+    let p = start t (here .before) .pre in
+    let q = placed t here in
+    let room : length (a .times .now) ≤ length (put .fill-node .last .0) = omega arith in
+    (omega (arith, p .0), (p .1 .0, ((room, omega arith), (rw (here .root-place .ensures) (is-child false (length (a .times .now)) (p .1 .1 .0 .1) (p .1 .1 .1 .0)), omega arith, above-side false (a .times .now) (a .v) (p .1 .1 .0 .1) ∙ sym (put .fill-node .ensures .0)))))
 
 add-fill : (t : ℕ) → lts.Need-add-fill (calls t) (given t) reads.Post
-add-fill t c = omega (arith, placed t (c .before .before .before .before .before .before .before .before .before .before))
+add-fill t c = omega (arith, placed t (node t c .before .before))
 
 sub-fill-2 : (t : ℕ) → lts.Need-sub-fill-2 (calls t) (given t) reads.Post
-sub-fill-2 t c = omega (arith, placed t (c .before .before .before .before .before .before .before .before .before .before))
+sub-fill-2 t c = omega (arith, placed t (node t c .before .before))
 
 mul-fill-2 : (t : ℕ) → lts.Need-mul-fill-2 (calls t) (given t) reads.Post
-mul-fill-2 t c = omega (arith, node-in t (c .before .before .before .before .before .before .before .before .before .before))
+mul-fill-2 t c = omega (arith, node-in t (node t c .before .before))
 
 add-fill-2 : (t : ℕ) → lts.Need-add-fill-2 (calls t) (given t) reads.Post
-add-fill-2 t c = omega (arith, node-in t (c .before .before .before .before .before .before .before .before .before .before))
+add-fill-2 t c = omega (arith, node-in t (node t c .before .before))
 
 fill-requires-2 : (t : ℕ) → lts.Need-fill-requires-2 (calls t) (given t) reads.Post
 unfolding childOf
 fill-requires-2 t c κs =
-    let a = c .before .before .before .before .before .before .before .before .before .before .before .before .before .before .args in
-    let p = c .before .before .before .before .before .before .before .before .before .before .before .before .before .before .pre .1 in
-    let q = placed t (c .before .before .before .before .before .before .before .before .before .before) in
+    let here = node t c .before .before in
+    let a = start t (here .before) .args in
+    let p = start t (here .before) .pre in
+    let q = placed t here in
     let room : length (a .times .now) ≤ length (c .before .before .before .fill .last .0) = omega arith in
-    (omega (arith, c .before .before .before .before .before .before .before .before .before .before .before .before .before .before .pre .0), (p .0, ((room, omega arith), (rw (c .before .before .before .before .before .before .before .before .before .before .root-place .ensures) (is-child true (length (a .times .now)) (p .1 .0 .1) (p .1 .1 .0)), omega arith, above-side true (a .times .now) (a .v) (p .1 .0 .1) ∙ sym (c .before .before .before .before .before .before .before .before .fill-node .ensures .0)))))
+    (omega (arith, p .0), (p .1 .0, ((room, omega arith), (rw (here .root-place .ensures) (is-child true (length (a .times .now)) (p .1 .1 .0 .1) (p .1 .1 .1 .0)), omega arith, above-side true (a .times .now) (a .v) (p .1 .1 .0 .1) ∙ sym (node t c .fill-node .ensures .0)))))
 
 same-length-3 : (t : ℕ) → lts.Need-same-length-3 (calls t) (given t) reads.Post
 same-length-3 t c = omega arith
 
 returns-3 : (t : ℕ) → lts.Need-returns-3 (calls t) (given t) reads.Post
 returns-3 t c =
-    let a = c .before .before .before .before .before .before .before .before .before .before .before .before .before .before .before .before .before .args in
-    let p = c .before .before .before .before .before .before .before .before .before .before .before .before .before .before .before .before .before .pre .1 in
-    let k = node-in t (c .before .before .before .before .before .before .before .before .before .before .before .before .before) in
-    filled-node (a .times .now) (a .v) (a .values .now) (c .before .before .before .before .before .before .before .before .before .before .before .fill-node .last .0) (c .before .before .before .before .before .before .fill .last .0) (c .before .before .fill2 .last .0)
-    (p .1 .0 .1) k (omega (arith, k)) (c .before .before .before .before .before .before .before .before .before .before .before .fill-node .ensures .1) (c .before .before .before .before .before .before .fill .ensures) (c .before .before .fill2 .ensures)
+    let put = node t (c .before .before .before) .fill-node in
+    let left = c .before .before .before .before .before .before .fill in
+    let right = c .before .before .fill2 in
+    let here = node t (c .before .before .before) .before .before in
+    let a = start t (here .before) .args in
+    let k = node-in t here in
+    filled-node (a .times .now) (a .v) (a .values .now) (put .last .0) (left .last .0) (right .last .0) (start t (here .before) .pre .1 .1 .0 .1) k (omega (arith, k)) (put .ensures .1) (left .ensures) (right .ensures)
 
 pub +fill-spec : {M : Type 1} → statement M
 +fill-spec = close μ λ t. lts.spec (calls t)

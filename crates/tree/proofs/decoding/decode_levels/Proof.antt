@@ -51,8 +51,11 @@ next {first} depth e h = (rw (add-one, pow-succ' 2 depth) (ap (λ (x : ℕ). 2 *
 before-last : (n first last : ℕ) → last ≡ min n (2 * first - 1) → (first ≤ n) × (1 ≤ first) → (first - 1 ≤ last) × (last ≤ n)
 before-last n first last e h = omega arith
 
+abbrev turn : tie.After-decode Inv-loop μ-loop → tie.In-loop Inv-loop μ-loop
+turn c = c .before .before .before .before .before .before .before
+
 abbrev at-loop : tie.After-decode Inv-loop μ-loop → tie.At-loop Inv-loop μ-loop
-at-loop c = c .before .before .before .before .before .before .before .before
+at-loop c = turn c .before
 
 -- the last node of the level
 abbrev last : tie.After-decode Inv-loop μ-loop → ℕ
@@ -62,7 +65,7 @@ last-is : (c : tie.After-decode Inv-loop μ-loop) → last c ≡ min (length (at
 last-is c = let l = at-loop c .loop in c .before .before .before .before .before .before .least .ensures ∙ ap (λ (n : ℕ). min n (2 * l .first - 1)) (sym (l .inv .1))
 
 in-part : (c : tie.After-decode Inv-loop μ-loop) → (at-loop c .loop .first - 1 ≤ last c) × (last c ≤ length (at-loop c .loop .values))
-in-part c = before-last (length (at-loop c .loop .values)) (at-loop c .loop .first) (last c) (last-is c) (among (c .before .before .before .before .before .before .before))
+in-part c = before-last (length (at-loop c .loop .values)) (at-loop c .loop .first) (last c) (last-is c) (among (turn c))
 
 -- how many values the level has
 few : (c : tie.After-decode Inv-loop μ-loop) → let l = at-loop c .loop in
@@ -153,7 +156,7 @@ returns c =
     let l = at-loop d .loop in
     let n = length (a .values .now) in
     let e = decoded-not (a .t3) (a .s .now) (l .depth) (last d) (take (l .first - 1) (l .values)) _ (l .inv .5) (decodes d)
-    (sym (d .decode .ensures .0) ∙ not-true (d .decode .result) (c .before .before .before .before .if1 .taken)) (height (a .t3 .pins)) (deeper (d .before .before .before .before .before .before .before)) in
+    (sym (d .decode .ensures .0) ∙ not-true (d .decode .result) (c .before .before .before .before .if1 .taken)) (height (a .t3 .pins)) (deeper (turn d)) in
     record {
       told = sym (ap isDecoded e);
       left = c .before .before .clear .ensures ∙ ap (λ (zs : List ℕ). replicate n 0 ++ zs) (drop-of-length-le _ {i = n} (le-of-eq (kept d))) ∙ append-nil (replicate n 0)
@@ -161,7 +164,7 @@ returns c =
     }
 
 add-depth : tie.Need-add-depth Inv-loop μ-loop
-add-depth c = omega (arith, level (c .before .before .before .before .before .before .before .before .before .before))
+add-depth c = omega (arith, level (turn (c .before .before .before)))
 
 mul-first : tie.Need-mul-first Inv-loop μ-loop
 mul-first c = omega arith
@@ -180,7 +183,7 @@ loop-again c =
       kept d,
       next (l .depth) (l .inv .2) (l .inv .3) .0,
       next (l .depth) (l .inv .2) (l .inv .3) .1,
-      rw add-one (deeper (d .before .before .before .before .before .before .before)),
+      rw add-one (deeper (turn d)),
       e ∙ ap (λ (ys : List ℕ). all (take (l .first - 1) (l .values) ++ ys)) (sym (d .decode .ensures .1))
           ∙ ap all (sym (front-put (l .first - 1) (last d) (2 * l .first - 1) (l .values) (d .decode .last .0) (in-part d .0) (last-is d) (d .decode .kept .0 ∙ few d))),
     )

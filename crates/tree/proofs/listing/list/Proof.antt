@@ -20,8 +20,12 @@ use Rattle.tree.proofs.listing.list.Tie as tie
 decode-levels-requires : tie.Need-decode-levels-requires
 decode-levels-requires c κs = search needs
 
+-- the start, seen from where the levels are decoded
+abbrev start : tie.After-decode-levels → tie.Start
+start c = c .before .before .before .before .before
+
 merge-levels-requires : tie.Need-merge-levels-requires
-merge-levels-requires c κs = let a = c .before .before .before .before .before .before .before .before .before .before in omega (arith, c .before .before .before .before .before .decode-levels .kept .0, pins-bound (a .args .levels) (a .args .s .now) (a .pre .0))
+merge-levels-requires c κs = let a = start (c .before .before .before .before .before) in omega (arith, c .before .before .before .before .before .decode-levels .kept .0, pins-bound (a .args .levels) (a .args .s .now) (a .pre .0))
 
 same-length : tie.Need-same-length
 same-length c = search needs
@@ -31,7 +35,7 @@ same-length-2 c = search needs
 
 returns : tie.Need-returns
 returns c =
-    let b = c .before .before .before .before .before .before .before .before .before .before .before .before .before .before in
+    let b = start (c .before .before .before .before .before .before .before .before .before) in
     let a = b .args in
     let d = c .before .before .before .before .before .before .before .before .before .decode-levels in
     let m = c .before .before .before .merge-levels in
@@ -46,7 +50,7 @@ returns c =
     )
 
 -- as many entries as before
-same : (c : tie.Joined1) → length (c .if1 .times) ≡ length (c .before .before .before .before .before .before .before .before .args .times .now)
+same : (c : tie.Joined1) → length (c .if1 .times) ≡ length (start (c .before .before .before) .args .times .now)
 same c = ⊎-elim (λ w. ap length (w .7) ∙ w .3 .kept .0) (λ w. ap length (w .1)) (c .if1 .came)
 
 clear-requires : tie.Need-clear-requires
@@ -54,9 +58,10 @@ clear-requires c κs = omega (arith, same (c .before))
 
 list-under-requires : tie.Need-list-under-requires
 list-under-requires c κs =
-    let b = c .before .before .before .before .before .before .before .before .before .before .before .before .before in
+    let tried = c .before .before .before .before .before in
+    let b = start (tried .before .before .before) in
     let a = b .args in
-    ((b .pre .0, omega (arith, c .before .before .before .clear .kept .0, same (c .before .before .before .before .before))), (stands-root (a .levels) (a .s .now), λ i lo hi. sym (access-start (a .levels .pins) (timesIn (a .levels) (a .s .now)) i)))
+    ((b .pre .0, omega (arith, c .before .before .before .clear .kept .0, same tried)), (stands-root (a .levels) (a .s .now), λ i lo hi. sym (access-start (a .levels .pins) (timesIn (a .levels) (a .s .now)) i)))
 
 same-length-3 : tie.Need-same-length-3
 same-length-3 c = c .before .before .list-under .kept .0 ∙ c .before .before .before .before .before .before .clear .kept .0 ∙ same (c .before .before .before .before .before .before .before .before)
@@ -66,11 +71,12 @@ same-length-4 c = search needs
 
 returns-2 : tie.Need-returns-2
 returns-2 c =
-    let b = c .before .before .before .before .before .before .before .before .before .before .before .before .before .before .before .before in
+    let tried = c .before .before .before .before .before .before .before .before in
+    let d = tried .before .before .before in
+    let b = start d in
     let u = c .before .before .list-under in
-    let d = c .before .before .before .before .before .before .before .before .before .before .before .decode-levels in
-    let n : length (c .before .before .before .before .before .before .before .before .if1 .times) ≡ b .args .levels .pins = same (c .before .before .before .before .before .before .before .before) ∙ sym (b .pre .1) in
-    (u .ensures .0, (filled-front (b .args .levels .pins) (c .before .before .before .before .before .before .before .before .if1 .times) (timesAll (b .args .levels) (b .args .s .now)) n (c .before .before .before .before .before .before .clear .ensures) (u .ensures .1), d .ensures))
+    let n : length (tried .if1 .times) ≡ b .args .levels .pins = same tried ∙ sym (b .pre .1) in
+    (u .ensures .0, (filled-front (b .args .levels .pins) (tried .if1 .times) (timesAll (b .args .levels) (b .args .s .now)) n (c .before .before .before .before .before .before .clear .ensures) (u .ensures .1), d .decode-levels .ensures))
 
 pub list-spec : {M : Type 1} → statement M
 list-spec =

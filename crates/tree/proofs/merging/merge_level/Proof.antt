@@ -18,12 +18,17 @@ merge-pairs-requires c κs = search needs
 same-length : tie.Need-same-length
 same-length c = search needs
 
+-- the start, seen from where the entries are moved up
+abbrev start : tie.After-move-up → tie.Start
+start c = c .before .before .before .before
+
 returns : tie.Need-returns
 returns c e =
-    let a = c .before .before .before .before .before .before .before .before .before .before .before .args in
-    let p = c .before .before .before .before .before .before .before .before .before .before .before .pre in
+    let up = c .before .before .before .before .before .before .before in
+    let a = start up .args in
+    let p = start up .pre in
     let whole : length (a .stored .now) ≡ 2 * (length (a .stored .now) / 2) = omega arith in
-    c .before .before .merge-pairs .ensures e (a .times .now) (a .above) (p .3) (p .1) (p .2) (rw whole at (c .before .before .before .before .before .before .before .move-up .ensures (a .stored .now) refl))
+    c .before .before .merge-pairs .ensures e (a .times .now) (a .above) (p .3) (p .1) (p .2) (rw whole at (up .move-up .ensures (a .stored .now) refl))
 
 sub-merge-left : tie.Need-sub-merge-left
 sub-merge-left c = search needs
@@ -45,13 +50,15 @@ same-length-3 c = search needs
 
 returns-3 : tie.Need-returns-3
 returns-3 c e =
-    let a = c .before .before .before .before .before .before .before .before .before .before .before .before .before .before .before .before .args in
-    let p = c .before .before .before .before .before .before .before .before .before .before .before .before .before .before .before .before .pre in
-    let x = c .before .before .before .before .before .before .before .merge-left in
+    let left = c .before .before .before .before .before .before .before in
+    let up = left .before .before .before .before .before in
+    let a = start up .args in
+    let p = start up .pre in
+    let x = left .merge-left in
     let last : length (a .stored .now) ≡ suc (length (a .stored .now) - 1) = omega arith in
     let whole : length (a .stored .now) - 1 ≡ 2 * (length (a .stored .now) / 2) = omega arith in
     c .before .before .merge-pairs2 .ensures e (a .times .now) (a .above) (p .3) (p .1) (p .2)
-    (rw whole at (x .ensures (not-false (x .result) (c .before .before .before .before .if2 .left)) (a .times .now) (a .above) (p .3) (p .1) (p .2) (rw last at (c .before .before .before .before .before .before .before .before .before .before .before .before .move-up .ensures (a .stored .now) refl))))
+    (rw whole at (x .ensures (not-false (x .result) (c .before .before .before .before .if2 .left)) (a .times .now) (a .above) (p .3) (p .1) (p .2) (rw last at (up .move-up .ensures (a .stored .now) refl))))
 
 pub merge-level-spec : {M : Type 1} → statement M
 merge-level-spec =

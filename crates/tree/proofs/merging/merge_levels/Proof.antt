@@ -39,6 +39,9 @@ loop-holds c =
       grown-root (a .values .now) (set (a .times .now) 0 x) some (getD-set-same (a .times .now) 0 x 0 room) (c .shared-slice-known2 .given 0 .fits),
     )
 
+abbrev start : tie.At-loop Inv-loop μ-loop → tie.Start Inv-loop μ-loop
+start c = c .before .before .before .before .before
+
 mul-least : tie.Need-mul-least Inv-loop μ-loop
 mul-least c = omega arith
 
@@ -69,8 +72,9 @@ sub-merge-level-3 c = omega arith
 merge-level-requires : tie.Need-merge-level-requires Inv-loop μ-loop
 merge-level-requires c κs =
     let l = c .before .before .before .before .loop in
-    let n : c .before .before .least .result ≤ length (c .before .before .before .before .before .before .before .before .before .args .values .now) = omega arith in
-    rw (span-length (l .first) (c .before .before .least .result) (c .before .before .before .before .before .before .before .before .before .args .values .now) n) (omega arith, omega arith, omega arith, first-odd _ _ (l .first) (l .times) (l .inv .5))
+    let values = start (c .before .before .before .before) .args .values .now in
+    let n : c .before .before .least .result ≤ length values = omega arith in
+    rw (span-length (l .first) (c .before .before .least .result) values n) (omega arith, omega arith, omega arith, first-odd _ _ (l .first) (l .times) (l .inv .5))
 
 same-length : tie.Need-same-length Inv-loop μ-loop
 same-length c = c .before .before .before .merge-level .kept .0 ∙ c .before .before .before .before .before .before .before .before .loop .inv .5 .kept ∙ simp length-set
@@ -85,18 +89,19 @@ less : (n f : ℕ) → 2 ≤ f → f ≤ n → n + 1 - 2 * f < n + 1 - f
 less n f a b = omega arith
 
 loop-less : tie.Need-loop-less Inv-loop μ-loop
-loop-less c = less (length (c .before .before .before .before .before .before .before .before .before .before .before .before .before .args .values .now)) (c .before .before .before .before .before .before .before .before .loop .first) (omega arith) (omega arith)
+loop-less c = let at-loop = c .before .before .before .before .before .before .before .before in less (length (start at-loop .args .values .now)) (at-loop .loop .first) (omega arith) (omega arith)
 
 loop-again : tie.Need-loop-again Inv-loop μ-loop
 loop-again c =
     let l = c .before .before .before .before .before .before .before .before .loop in
+    let least = c .before .before .before .before .before .before .least in
     let x = c .before .before .before .merge-level in (
       refl,
       l .inv .1,
       omega arith,
       l .inv .3,
       rw (x .kept .0) (l .inv .4),
-      grown-next _ _ (l .first) (l .times) (l .inv .5) _ (x .last .0) (c .before .before .before .before .before .before .least .result) (omega arith) (c .before .before .before .before .before .before .least .ensures) refl (x .ensures (not-false (x .result) (c .if2 .left))),
+      grown-next _ _ (l .first) (l .times) (l .inv .5) _ (x .last .0) (least .result) (omega arith) (least .ensures) refl (x .ensures (not-false (x .result) (c .if2 .left))),
     )
 
 same-length-2 : tie.Need-same-length-2 Inv-loop μ-loop
