@@ -1,22 +1,24 @@
 -- A sweep opens nodes in preorder, on any strip: a node comes before what lies under it, and what lies under its left child before its right
 -- child. So each node is opened later than the one before it, and on one level the numbers rise.
-use mathlib.Core.Path.{_≡_, sym}
+use mathlib.Core.Path.{_≡_, refl, sym, ap}
 use mathlib.Core.Bool.{Bool, true, false, cond}
 use mathlib.Core.List.{List, [], _∷_, _++_}
+use mathlib.Core.Logic.{inl, inr}
 use Prim.Native.Nat.{ℕ, zero, suc, _+_, _-_, _*_, _^_, _≤_, _<_}
 use native.Mathlib.Nat.{pow-succ', mul-le-mul-right, le-refl}
 use native.Mathlib.Decide.{decLt}
 use native.Mathlib.Omega.{arith}
 use lib.ListN.{length, getD}
 use lib.Pow.{pow-pos}
-use borrow.Author.Tests.{lt-ltb, le-ltb}
+use borrow.Author.Tests.{lt-ltb, le-ltb, ne-eqb}
 use Rattle.tree.specs.Shape.{height, childOf}
 use Rattle.tree.specs.Levels.{levelOf}
 use Rattle.tree.specs.Outcomes.{Outcome}
 use Rattle.tree.specs.Walks.{walkIn, walk, never, isBelow, remember, lastOf}
-use Rattle.tree.specs.Sweeps.{dropped, legsFrom, opened, sweepNodes}
+use Rattle.tree.specs.Sweeps.{dropped, legsFrom, opened, sweepNodes, occurrences}
 use Rattle.tree.proofs.Heights.{height-mono, height-above}
 use Rattle.tree.proofs.Walks.{child-bounds, height-child, walk-out}
+use Rattle.tree.proofs.Counts.{equal-cases}
 
 -- the places under node v on the level below the last, of a tree of n pins: so many, from `first` on
 abbrev wide : ℕ → ℕ → ℕ
@@ -110,6 +112,22 @@ rising-pairs n u (v ∷ vs) r i zero k h = absurd (omega arith)
 rising-pairs n u (v ∷ vs) r zero (suc j) k h = rising-all n v vs (r .1) j (omega arith)
 rising-pairs n u (v ∷ vs) r (suc i) (suc j) k h = rising-pairs n v vs (r .1) i j (omega arith) (omega arith)
 
+-- so no number stands in such a list twice
+none-later : (n u v : ℕ) (vs : List ℕ) → Rising n u vs → ((w : ℕ) → Before n u w → Before n v w) → occurrences v vs ≡ 0
+unfolding Rising occurrences
+none-later n u v [] r after = refl
+none-later n u v (w ∷ vs) r after =
+    let b = after w (r .0) in
+    rw (ne-eqb v w (λ e. omega (arith, level-rises b (ap height e), e)), none-later n w v vs (r .1) (λ x c. before-on b c))
+
+rising-once : (n u : ℕ) (vs : List ℕ) → Rising n u vs → (v : ℕ) → occurrences v vs ≤ 1
+unfolding Rising occurrences
+rising-once n u [] r v = omega arith
+rising-once n u (w ∷ vs) r v = elim (equal-cases v w) [
+  | inl e ↦ omega (arith, e .1, none-later n w v vs (r .1) (λ x c. rw (e .0) c))
+  | inr e ↦ omega (arith, e .1, rising-once n w vs (r .1) v)
+]
+
 -- ---- what a sweep remembers
 
 -- What was opened lies before place `end`, and so before the right child of each remembered node, which itself lies under the left child of
@@ -195,16 +213,22 @@ opens n time u from kept (t ∷ ts) e s =
     target-rises n (isBelow time t) u (d .from) (d .kept) (λ ks. opened (legsFrom n time (suc n) ks ts)) (p .0) (p .1)
     (λ w ks x. opens n time w (suc n) ks ts x (nowhere (omega arith)))
 
-pub nodes-rise : (n : ℕ) (time : ℕ → Outcome ℕ) (ts : List ℕ) (i j : ℕ) → let vs = sweepNodes n time ts in
-    i < j → j < length vs → levelOf (getD vs i 0) ≡ levelOf (getD vs j 0) → getD vs i 0 < getD vs j 0
+nodes-rising : (n : ℕ) (time : ℕ → Outcome ℕ) (ts : List ℕ) → Rising n 0 (sweepNodes n time ts)
 unfolding first Under
-nodes-rise n time ts i j k h e =
-    let vs = sweepNodes n time ts in
-    let r = opens n time 0 1 [] ts begin root in
-    level-rises (rising-pairs n 0 vs r i j k h) (omega (arith, some-level _ (rising-all n 0 vs r i (omega arith)), some-level _ (rising-all n 0 vs r j h)))
+nodes-rising n time ts = opens n time 0 1 [] ts begin root
   where
     begin : Ends n 0 []
     begin = record { end = 1; inside = omega arith; under = tt }
 
     root : Starts n 0 1 []
     root = there (le-refl 1) (sooner (omega (arith, some n 1))) tt
+
+pub nodes-once : (n : ℕ) (time : ℕ → Outcome ℕ) (ts : List ℕ) (v : ℕ) → occurrences v (sweepNodes n time ts) ≤ 1
+nodes-once n time ts = rising-once n 0 (sweepNodes n time ts) (nodes-rising n time ts)
+
+pub nodes-rise : (n : ℕ) (time : ℕ → Outcome ℕ) (ts : List ℕ) (i j : ℕ) → let vs = sweepNodes n time ts in
+    i < j → j < length vs → levelOf (getD vs i 0) ≡ levelOf (getD vs j 0) → getD vs i 0 < getD vs j 0
+nodes-rise n time ts i j k h e =
+    let vs = sweepNodes n time ts in
+    let r = nodes-rising n time ts in
+    level-rises (rising-pairs n 0 vs r i j k h) (omega (arith, some-level _ (rising-all n 0 vs r i (omega arith)), some-level _ (rising-all n 0 vs r j h)))

@@ -30,10 +30,9 @@ same-length-2 c = search needs
 
 returns-2 : tie.Need-returns-2
 returns-2 c =
-    let told = c .before .before .before .before .before .before .before in
-    let a = told .before .before .before .before .args in
+    let a = c .before .before .before .before .before .before .before .before .before .before .before .args in
     let n = length (a .values .now) in
-    let d = told .decode-kind in
+    let d = c .before .before .before .before .before .before .before .decode-kind in
     rw (says-no (decoded (a .code) n (a .part .now)) {r = d .result} (d .last .0) (c .before .before .before .before .if1 .left) (d .ensures))
     (refl, c .before .before .clear .ensures ∙ ap (λ (l : List ℕ). replicate n 0 ++ l) (drop-of-length-le (d .last .0) {i = n} (omega arith)) ∙ append-nil (replicate n 0))
 

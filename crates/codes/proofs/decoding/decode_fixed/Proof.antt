@@ -47,18 +47,15 @@ as-long w xs vs bytes e h = rw e h
 decode-fours-requires : tie.Need-decode-fours-requires
 decode-fours-requires c κs = search needs
 
-abbrev start : tie.After-decode-fours → tie.Start
-start c = c .before .before .before .before .before .before
-
 decode-twos-requires : tie.Need-decode-twos-requires
 decode-twos-requires c κs =
-    let a = start (c .before .before .before) .args in
+    let a = c .before .before .before .before .before .before .before .before .before .args in
     let f = c .before .before .before .decode-fours in
     (as-long (a .w) (f .last .0) (a .values .now) (a .part .now) (omega arith) (omega arith), omega arith, f .ensures .1)
 
 decode-ones-requires : tie.Need-decode-ones-requires
 decode-ones-requires c κs =
-    let a = start (c .before .before .before .before .before .before .before) .args in
+    let a = c .before .before .before .before .before .before .before .before .before .before .before .before .before .args in
     let t = c .before .before .before .decode-twos in
     (as-long (a .w) (t .last .0) (a .values .now) (a .part .now) (omega arith) (omega arith), omega arith, t .ensures .1)
 
@@ -67,9 +64,9 @@ same-length-2 c = search needs
 
 returns-3 : tie.Need-returns-3
 returns-3 c =
-    let o = c .before .before .decode-ones in
-    let a = start (c .before .before .before .before .before .before .before .before .before .before) .args in
+    let a = c .before .before .before .before .before .before .before .before .before .before .before .before .before .before .before .before .args in
     let n = length (a .values .now) in
+    let o = c .before .before .decode-ones in
     rw (fixed-decoded (a .w) n (bitsOf (a .part .now)) (rw (length-fixed 8 (a .part .now)) (omega arith)))
     (refl, numbers-are (a .w) n (bitsOf (a .part .now)) (o .last .0) (omega arith) (λ q h. o .ensures q (omega arith)))
 

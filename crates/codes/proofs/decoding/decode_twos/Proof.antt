@@ -53,9 +53,8 @@ loop-less c = omega arith
 
 loop-again : tie.Need-loop-again Inv-loop μ-loop
 loop-again c =
-    let at-loop = c .before .before .before .before .before .before in
-    let a = at-loop .before .before .before .before .args in
-    let l = at-loop .loop in
+    let a = c .before .before .before .before .before .before .before .before .before .before .args in
+    let l = c .before .before .before .before .before .before .loop in
     let t : l .i + 2 ≤ length (a .values .now) = omega arith in
     let room = mul-le-mul-right (a .w) t in
     let known = c .before .before .put-two .ensures (a .part .now) (omega arith) (c .before .before .before .read-word .ensures) (l .inv .6) in

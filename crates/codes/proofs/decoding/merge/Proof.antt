@@ -75,10 +75,9 @@ loop-less c = omega arith
 
 loop-again : tie.Need-loop-again Inv-loop μ-loop
 loop-again c =
-    let at-loop = c .before .before .before .before .before .before in
-    let a = at-loop .before .before .before .before .args in
-    let l = at-loop .loop in
-    let r = at-loop .before .radix-of .ensures in
+    let a = c .before .before .before .before .before .before .before .before .before .before .args in
+    let l = c .before .before .before .before .before .before .loop in
+    let r = c .before .before .before .before .before .before .before .radix-of .ensures in
     let k = c .before .before .before .before .least .result in
     let g = c .before .before .merge-group in
     let e : l .i ≡ l .i - k + k = omega (arith, c .before .before .before .before .least .ensures) in

@@ -53,9 +53,8 @@ loop-less c = omega arith
 
 loop-again : tie.Need-loop-again Inv-loop μ-loop
 loop-again c =
-    let at-loop = c .before .before .before .before .before .before .before .before in
-    let l = at-loop .loop in
-    let a = at-loop .before .before .before .args in
+    let l = c .before .before .before .before .before .before .before .before .loop in
+    let a = c .before .before .before .before .before .before .before .before .before .before .before .args in
     let u = c .before .before .put .ensures in
     let x = getD (a .values .now) (l .i) 0 in
     let b = rw (c .before .before .before .low-bits .ensures .1, c .before .before .before .before .wide-value .ensures, bits-mod (a .w) x) at (u .0) in

@@ -39,9 +39,8 @@ same-length c = search needs
 
 returns : tie.Need-returns
 returns c =
-    let on = c .before .before .before .before .before .before .before in
-    let l = on .before .before .before .before .before .before .args .layer in
-    let before = on .count-on .ensures .0 in
+    let l = c .before .before .before .before .before .before .before .before .before .before .before .before .before .args .layer in
+    let before = c .before .before .before .before .before .before .before .count-on .ensures .0 in
     let all = c .before .before .before .count-on2 .ensures in
     let first : l .at + l .index - l .at ≡ l .index = omega arith in
     let last : l .at + l .count - l .at ≡ l .count = omega arith in (

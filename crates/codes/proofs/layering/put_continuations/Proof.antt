@@ -50,10 +50,9 @@ loop-less c = omega arith
 
 loop-again : tie.Need-loop-again Inv-loop μ-loop
 loop-again c =
-    let least = c .before .before .before .before .before in
-    let l = least .before .before .loop in
-    let a = least .before .before .before .before .before .args in
-    let k = least .least .result in
+    let l = c .before .before .before .before .before .before .before .loop in
+    let a = c .before .before .before .before .before .before .before .before .before .before .args in
+    let k = c .before .before .before .before .before .least .result in
     let u = c .before .before .put .ensures in
     let vs = drop (l .i) (a .values .now) in
     let n = length-continuations (a .radix .bits) vs k (simp length-drop (omega arith)) in

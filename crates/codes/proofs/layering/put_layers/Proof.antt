@@ -52,9 +52,8 @@ put-chunks-requires c κs =
 
 loop-less : tie.Need-loop-less Inv-loop μ-loop
 loop-less c =
-    let v = c .before .before .before .before .before in
-    let k = v .put-chunks in
-    let w = v .before .before .before .before .before .before .before .before in
+    let k = c .before .before .before .before .before .put-chunks in
+    let w = c .before .before .before .before .before .before .before .before .before .before .before .before .before in
     let l = w .before .loop in
     let r = w .before .before .radix-of .ensures in
     let s = w .before .before .before .before .before in
