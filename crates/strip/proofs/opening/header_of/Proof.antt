@@ -49,9 +49,13 @@ returns-4 c =
 two-at-requires : tie.Need-two-at-requires
 two-at-requires c κs = search needs
 
+-- the bytes, seen from where the version is read
+abbrev bytes : tie.After-two-at → List ℕ
+bytes c = c .before .before .before .before .before .before .before .before .before .args .s .now
+
 returns-5 : tie.Need-returns-5
 returns-5 c =
-    let s = c .before .before .before .before .before .before .before .before .before .before .args .s .now in
+    let s = bytes (c .before) in
     (sym (other-version s (omega arith) (marked s (omega arith) (omega arith) (omega arith)) (λ e. omega arith)), tt)
 
 two-at-requires-2 : tie.Need-two-at-requires-2
@@ -59,7 +63,7 @@ two-at-requires-2 c κs = search needs
 
 returns-6 : tie.Need-returns-6
 returns-6 c =
-    let s = c .before .before .before .before .before .before .before .before .before .before .before .before .args .s .now in
+    let s = bytes (c .before .before .before) in
     (sym (no-pins s (omega arith) (marked s (omega arith) (omega arith) (omega arith)) (omega arith) (omega arith)), tt)
 
 height-requires : tie.Need-height-requires
@@ -73,13 +77,13 @@ add-if7 c = omega (arith, height-fits (c .before .before .two-at2 .result) (omeg
 
 returns-7 : tie.Need-returns-7
 returns-7 c =
-    let s = c .before .before .before .before .before .before .before .before .before .before .before .before .before .before .args .s .now in
+    let s = bytes (c .before .before .before .before .before) in
     let n = c .before .before .before .two-at2 .ensures .0 in
     (sym (entries-cut s (omega arith) (marked s (omega arith) (omega arith) (omega arith)) (omega arith) (λ e. omega arith) (rw (← n) (omega arith))), tt)
 
 returns-8 : tie.Need-returns-8
 returns-8 c =
-    let s = c .before .before .before .before .before .before .before .before .before .before .before .before .before .before .args .s .now in
+    let s = bytes (c .before .before .before .before .before) in
     let n = c .before .before .before .two-at2 .ensures in
     (ap gives (n .0) ∙ sym (header-passes s (omega arith) (marked s (omega arith) (omega arith) (omega arith)) (omega arith) (λ e. omega arith) (rw (← (n .0)) (omega arith))), (n .0, n .1, omega arith))
 

@@ -68,8 +68,9 @@ add-t18 c = omega arith
 returns : tie.Need-returns Inv-loop μ-loop
 returns c =
     let l = c .before .before .before .before .loop in
-    let s = c .before .before .before .before .before .before .before .before .before .args .s .now in
-    let e = codes-refused s (lengthTest s ∷ []) (levelsIn s) (c .before .before .before .before .before .before .before .height .result) (l .d) (omega arith) (sym (c .before .is-refused .ensures) ∙ c .if1 .taken) in
+    let high = c .before .before .before .before .before .before .before in
+    let s = high .before .before .args .s .now in
+    let e = codes-refused s (lengthTest s ∷ []) (levelsIn s) (high .height .result) (l .d) (omega arith) (sym (c .before .is-refused .ensures) ∙ c .if1 .taken) in
     (sym (l .inv .6 ∙ e), tt)
 
 mul-four-at : tie.Need-mul-four-at Inv-loop μ-loop
@@ -105,14 +106,15 @@ loop-less c = omega arith
 loop-again : tie.Need-loop-again Inv-loop μ-loop
 loop-again c =
     let l = c .before .before .before .before .before .loop in
-    let n = c .before .before .before .before .before .before .before .before .before .before .args .n in
-    let s = c .before .before .before .before .before .before .before .before .before .before .args .s .now in
+    let high = c .before .before .before .before .before .before .before .before in
+    let n = high .before .before .args .n in
+    let s = high .before .before .args .s .now in
     let d = l .d in
     let start = partsStart n in
     let next : d + 1 ≡ suc d = omega arith in
     let e : l .end + c .four-at .result ≡ endAfter start (lengthAt s) (suc d) =
     rw (c .four-at .ensures .0, l .inv .3) (sym (end-next start (lengthAt s) d)) in
-    let t = codes-pass s (lengthTest s ∷ []) (levelsIn s) (c .before .before .before .before .before .before .before .before .height .result) d (omega arith) (sym (c .before .before .is-refused .ensures) ∙ c .before .if1 .left) in (
+    let t = codes-pass s (lengthTest s ∷ []) (levelsIn s) (high .height .result) d (omega arith) (sym (c .before .before .is-refused .ensures) ∙ c .before .if1 .left) in (
       l .inv .0,
       omega arith,
       omega arith,
@@ -132,23 +134,26 @@ at-end s n h d end p q r e = rw (r, q, p) at e
 returns-2 : tie.Need-returns-2 Inv-loop μ-loop
 returns-2 c =
     let l = c .before .before .loop in
-    let s = c .before .before .before .before .before .before .before .args .s .now in
-    let e = at-end s (c .before .before .before .before .before .before .before .args .n) (c .before .before .before .before .before .height .result) (l .d) (l .end) (c .before .before .before .before .before .before .before .pre .0) (c .before .before .before .before .before .height .ensures) (omega arith) (l .inv .3) in
-    let t = codes-end s (lengthTest s ∷ []) (levelsIn s) (c .before .before .before .before .before .height .result - l .d) (l .d) (omega arith) in
+    let h = c .before .before .before .before .before .height in
+    let b = c .before .before .before .before .before .before .before in
+    let s = b .args .s .now in
+    let e = at-end s (b .args .n) (h .result) (l .d) (l .end) (b .pre .0) (h .ensures) (omega arith) (l .inv .3) in
+    let t = codes-end s (lengthTest s ∷ []) (levelsIn s) (h .result - l .d) (l .d) (omega arith) in
     (sym (l .inv .6 ∙ t ∙ length-differs s (levelsIn s) (λ q. omega (arith, e))), tt)
 
 returns-3 : tie.Need-returns-3 Inv-loop μ-loop
 returns-3 c =
     let l = c .before .before .loop in
-    let n = c .before .before .before .before .before .before .before .args .n in
-    let s = c .before .before .before .before .before .before .before .args .s .now in
-    let h = c .before .before .before .before .before .height .result in
-    let e = at-end s n h (l .d) (l .end) (c .before .before .before .before .before .before .before .pre .0) (c .before .before .before .before .before .height .ensures) (omega arith) (l .inv .3) in
-    let t = codes-end s (lengthTest s ∷ []) (levelsIn s) (h - l .d) (l .d) (omega arith) in
+    let h = c .before .before .before .before .before .height in
+    let b = c .before .before .before .before .before .before .before in
+    let n = b .args .n in
+    let s = b .args .s .now in
+    let e = at-end s n (h .result) (l .d) (l .end) (b .pre .0) (h .ensures) (omega arith) (l .inv .3) in
+    let t = codes-end s (lengthTest s ∷ []) (levelsIn s) (h .result - l .d) (l .d) (omega arith) in
     let all : l .levels ≡ laidOut n (codeAt s) (lengthAt s) =
-    l .inv .4 ∙ ap (entered n (codeAt s) (lengthAt s)) (omega (arith, c .before .before .before .before .before .height .ensures)) ∙ entered-all n (codeAt s) (lengthAt s) in (
-      rw (all, c .before .before .before .before .before .before .before .pre .0) (sym (l .inv .6 ∙ t ∙ length-agrees s (levelsIn s) (omega (arith, e)))),
-      rw all (laid-fits n (codeAt s) (lengthAt s) (omega arith) s (λ k m. l .inv .5 k (omega arith)) (rw (c .before .before .before .before .before .before .before .pre .0) (omega (arith, e)))),
+    l .inv .4 ∙ ap (entered n (codeAt s) (lengthAt s)) (omega (arith, h .ensures)) ∙ entered-all n (codeAt s) (lengthAt s) in (
+      rw (all, b .pre .0) (sym (l .inv .6 ∙ t ∙ length-agrees s (levelsIn s) (omega (arith, e)))),
+      rw all (laid-fits n (codeAt s) (lengthAt s) (omega arith) s (λ k m. l .inv .5 k (omega arith)) (rw (b .pre .0) (omega (arith, e)))),
     )
 
 pub levels-of-spec : {M : Type 1} → statement M

@@ -21,12 +21,16 @@ construct-requires c κs = search needs
 slice-reshare-prefix-pack-values : tie.Need-slice-reshare-prefix-pack-values
 slice-reshare-prefix-pack-values c = search needs
 
+-- the times, seen from where the tree is constructed
+abbrev times : tie.After-construct → List ℕ
+times c = c .before .before .before .before .before .before .args .times .now
+
 slice-aggregate-pack-values : tie.Need-slice-aggregate-pack-values
-slice-aggregate-pack-values c = sym (ap length (stored-front (c .before .before .before .before .before .before .before .before .before .before .before .args .times .now) _ _ (c .before .before .before .before .before .construct .ensures)) ∙ stored-levels .count (c .before .before .before .before .before .before .before .before .before .before .before .args .times .now))
+slice-aggregate-pack-values c = let made = c .before .before .before .before .before in sym (ap length (stored-front (times made) _ _ (made .construct .ensures)) ∙ stored-levels .count (times made))
 
 pack-values-requires : tie.Need-pack-values-requires
 pack-values-requires c κs =
-    let xs = c .before .before .before .before .before .before .before .before .before .before .before .args .times .now in
+    let xs = times (c .before .before .before .before .before) in
     let front = stored-front xs _ _ (c .before .before .before .before .before .construct .ensures) in
     omega (arith, ap length front, stored-levels .count xs)
 
@@ -40,7 +44,10 @@ same-length-3 : tie.Need-same-length-3
 same-length-3 c = search needs
 
 returns : tie.Need-returns
-returns c = rw (stored-front (c .before .before .before .before .before .before .before .before .before .before .before .before .before .before .before .before .args .times .now) _ _ (c .before .before .before .before .before .before .before .before .before .before .construct .ensures)) at (c .before .before .before .before .pack-values .ensures)
+returns c =
+    let packed = c .before .before .before .before in
+    let made = packed .before .before .before .before .before .before in
+    rw (stored-front (times made) _ _ (made .construct .ensures)) at (packed .pack-values .ensures)
 
 pub pack-in-spec : {M : Type 1} → statement M
 pack-in-spec =

@@ -18,30 +18,37 @@ plan-requires c κs = search needs
 height-requires : tie.Need-height-requires
 height-requires c κs = search needs
 
+-- the start, seen from where the plan's height is known
+abbrev start : tie.After-height → tie.Start
+start c = c .before .before .before .before .before
+
 mul-end : tie.Need-mul-end
 mul-end c =
-    let values = c .before .before .before .before .before .args .values .now in
-    omega (arith, ap height (plan-pins values (c .before .plan .result) (c .before .plan .ensures)), height-fits (length values) (c .before .before .before .before .before .pre .0))
+    let values = start c .args .values .now in
+    omega (arith, ap height (plan-pins values (c .before .plan .result) (c .before .plan .ensures)), height-fits (length values) (start c .pre .0))
 
 element-copy-out-end : tie.Need-element-copy-out-end
 element-copy-out-end c =
-    let values = c .before .before .before .before .before .args .values .now in
-    omega (arith, ap height (plan-pins values (c .before .plan .result) (c .before .plan .ensures)), height-fits (length values) (c .before .before .before .before .before .pre .0))
+    let values = start c .args .values .now in
+    omega (arith, ap height (plan-pins values (c .before .plan .result) (c .before .plan .ensures)), height-fits (length values) (start c .pre .0))
 
 returns : tie.Need-returns
 unfolding verdict test
 returns c =
-    let a = c .before .before .before .before .before .before .before .args in
+    let here = c .before .before in
+    let a = start here .args in
     let values = a .values .now in
-    let end = plan-end values (c .before .before .before .before .before .before .before .pre .0) (c .before .before .before .plan .result) (c .before .before .before .plan .ensures) (c .before .before .height .result) (c .before .before .height .ensures) in
+    let plan = here .before .plan in
+    let end = plan-end values (start here .pre .0) (plan .result) (plan .ensures) (here .height .result) (here .height .ensures) in
     rw (end, lt-ltb (length (a .out .now)) (length (stripOf values)) (omega (arith, end))) (refl, refl)
 
 put-strip-requires : tie.Need-put-strip-requires
 put-strip-requires c κs =
-    let p = c .before .before .before .before .before .before .before .before .before .pre in
-    let plan = c .before .before .before .before .before .plan in
-    let height = c .before .before .before .before .height in
-    let end = plan-end (c .before .before .before .before .before .before .before .before .before .args .values .now) (p .0) (plan .result) (plan .ensures) (height .result) (height .ensures) in
+    let here = c .before .before .before .before in
+    let p = start here .pre in
+    let plan = here .before .plan in
+    let height = here .height in
+    let end = plan-end (start here .args .values .now) (p .0) (plan .result) (plan .ensures) (height .result) (height .ensures) in
     ((p .0, omega arith, plan .ensures), omega (arith, end))
 
 same-length : tie.Need-same-length
@@ -53,11 +60,12 @@ same-length-2 c = search needs
 returns-2 : tie.Need-returns-2
 unfolding verdict test
 returns-2 c =
-    let a = c .before .before .before .before .before .before .before .before .before .before .before .before .before .before .args in
+    let here = c .before .before .before .before .before .before .before .before .before in
+    let a = start here .args in
     let values = a .values .now in
-    let plan = c .before .before .before .before .before .before .before .before .before .before .plan in
-    let height = c .before .before .before .before .before .before .before .before .before .height in
-    let end = plan-end values (c .before .before .before .before .before .before .before .before .before .before .before .before .before .before .pre .0) (plan .result) (plan .ensures) (height .result) (height .ensures) in
+    let plan = here .before .plan in
+    let height = here .height in
+    let end = plan-end values (start here .pre .0) (plan .result) (plan .ensures) (height .result) (height .ensures) in
     rw (end, le-ltb (length (a .out .now)) (length (stripOf values)) (omega (arith, end))) (refl, c .before .before .before .before .put-strip .ensures)
 
 pub pack-values-spec : {M : Type 1} → statement M

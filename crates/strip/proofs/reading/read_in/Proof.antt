@@ -45,14 +45,15 @@ same-length-3 c = search needs
 
 returns : tie.Need-returns
 returns c =
-    let b = c .before .before .before .before .before .before .before .before .before .before .before .before .before .before .before .before .before .before .before .before in
-    let a = b .args in
-    let x = c .before .before .before .before .before .before .before .before .before .before .before .before .before .read-list in
-    let e = counted-gives (checkIn (a .s .now) (a .levels)) (sym (ap told (c .before .before .before .before .before .enum-told2 .given .1)) ∙ rw (c .before .before .before .before .before .before .before .enum-told .given .1) at (x .ensures .0)) in
+    let all = c .before .before .before .before .before .before .before in
+    let read = all .before .before .before .before .before .before in
+    let a = read .before .before .before .before .before .before .before .args in
+    let x = read .read-list in
+    let e = counted-gives (checkIn (a .s .now) (a .levels)) (sym (ap told (c .before .before .before .before .before .enum-told2 .given .1)) ∙ rw (all .enum-told .given .1) at (x .ensures .0)) in
     let whole : x .last .0 ≡ listIn (a .s .now) (a .levels) = x .ensures .1 ∙ accepted-whole (a .s .now) (a .levels) _ e in
     let room = unpack-listed (a .s .now) (a .levels) (length (a .out .now)) _ e in
     let put = c .before .before .put-list .ensures in
-    rw (c .before .before .before .before .before .before .before .enum-told .given .1) (rw whole at (put .0) ∙ ap counted room, rw whole at (put .1) ∙ ap (λ (o : Outcome ℕ). written o (listIn (a .s .now) (a .levels)) (a .out .now)) room)
+    rw (all .enum-told .given .1) (rw whole at (put .0) ∙ ap counted room, rw whole at (put .1) ∙ ap (λ (o : Outcome ℕ). written o (listIn (a .s .now) (a .levels)) (a .out .now)) room)
 
 same-length-4 : tie.Need-same-length-4
 same-length-4 c = search needs
@@ -61,7 +62,10 @@ same-length-5 : tie.Need-same-length-5
 same-length-5 c = search needs
 
 returns-2 : tie.Need-returns-2
-returns-2 c = let a = c .before .before .before .before .before .before .before .before .before .before .before .before .before .before .before .args in absurd (counted-some (checkIn (a .s .now) (a .levels)) (sym (ap told (c .enum-told3 .given .1)) ∙ rw (c .before .before .enum-told .given .1) at (c .before .before .before .before .before .before .before .before .read-list .ensures .0)))
+returns-2 c =
+    let read = c .before .before .before .before .before .before .before .before in
+    let a = read .before .before .before .before .before .before .before .args in
+    absurd (counted-some (checkIn (a .s .now) (a .levels)) (sym (ap told (c .enum-told3 .given .1)) ∙ rw (c .before .before .enum-told .given .1) at (read .read-list .ensures .0)))
 
 same-length-6 : tie.Need-same-length-6
 same-length-6 c = search needs
@@ -71,9 +75,11 @@ same-length-7 c = search needs
 
 returns-3 : tie.Need-returns-3
 returns-3 c =
-    let a = c .before .before .before .before .before .before .before .before .before .before .before .before .before .before .before .before .args in
-    let e = unpack-refused (a .s .now) (a .levels) (length (a .out .now)) _ _ (counted-refuses (checkIn (a .s .now) (a .levels)) (sym (ap told (c .before .result .given .1)) ∙ rw (c .before .before .before .enum-told .given .1) at (c .before .before .before .before .before .before .before .before .before .read-list .ensures .0))) in
-    rw (c .before .before .before .enum-told .given .1) (ap counted e, ap (λ (o : Outcome ℕ). written o (listIn (a .s .now) (a .levels)) (a .out .now)) e)
+    let all = c .before .before .before in
+    let read = all .before .before .before .before .before .before in
+    let a = read .before .before .before .before .before .before .before .args in
+    let e = unpack-refused (a .s .now) (a .levels) (length (a .out .now)) _ _ (counted-refuses (checkIn (a .s .now) (a .levels)) (sym (ap told (c .before .result .given .1)) ∙ rw (all .enum-told .given .1) at (read .read-list .ensures .0))) in
+    rw (all .enum-told .given .1) (ap counted e, ap (λ (o : Outcome ℕ). written o (listIn (a .s .now) (a .levels)) (a .out .now)) e)
 
 same-length-8 : tie.Need-same-length-8
 same-length-8 c = search needs

@@ -68,9 +68,10 @@ same-length-2 c = search needs
 returns : tie.Need-returns
 unfolding listIn
 returns c =
-    let list = c .before .before .before .before .before .before .before .before .before .before in
+    let told = c .before .before .before .before in
+    let list = told .before .before .before .before .before .before in
     let a = start list .args in
-    let all = c .before .before .before .before .enum-told .given .1 in
+    let all = told .enum-told .given .1 in
     let count = listing-finds .count (a .levels) (a .s .now) (sym (sym (ap listed all) ∙ list .list .ensures .0 .outcome)) in
     let whole : list .list .last .0 ≡ listIn (a .s .now) (a .levels) = list .list .ensures .1 .0 ∙ list-laws .filled-whole (a .levels .pins) (listIn (a .s .now) (a .levels)) count in
     (c .gap-or .ensures ∙ rw (list .before .before .before .gap-of .ensures, whole, c .before .before .end-of .ensures) (told-lists list _ all), list .list .ensures .1 .0)
@@ -84,8 +85,9 @@ same-length-4 c = search needs
 returns-2 : tie.Need-returns-2
 unfolding listIn
 returns-2 c =
-    let list = c .before .before .before .before .before .before .before .before .before .before in
-    let is = c .before .before .before .before .listed .given .1 in (
+    let told = c .before .before .before .before in
+    let list = told .before .before .before .before .before .before in
+    let is = told .listed .given .1 in (
       c .gap-or2 .ensures ∙ rw (list .before .before .before .gap-of .ensures, front list _ is .is, c .before .of-walk .ensures .0, c .before .of-walk .ensures .1) (told-lists list _ is),
       list .list .ensures .1 .0,
     )

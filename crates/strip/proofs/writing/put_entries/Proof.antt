@@ -63,8 +63,9 @@ loop-less c = omega arith
 
 loop-again : tie.Need-loop-again Inv-loop μ-loop
 loop-again c =
-    let l = c .before .before .before .before .before .before .before .before .loop in
-    let a = c .before .before .before .before .before .before .before .before .before .before .before .args in (
+    let at-loop = c .before .before .before .before .before .before .before .before in
+    let l = at-loop .loop in
+    let a = at-loop .before .before .before .args in (
       omega arith,
       omega arith,
       c .before .before .put-entry .ensures ∙ ap (λ o. replaced o (7 + 5 * l .d) (entryIn (a .t2) (l .d))) (l .inv .2)

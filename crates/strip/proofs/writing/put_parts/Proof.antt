@@ -46,6 +46,10 @@ loop-holds c =
       sym (list-laws .replaced-none (a .out .now) (partsStart (length (a .values .now)))),
     )
 
+-- where the function begins
+abbrev begun : tie.At-loop Inv-loop μ-loop → tie.Start Inv-loop μ-loop
+begun c = c .before .before .before .before .before
+
 mul-start : tie.Need-mul-start Inv-loop μ-loop
 mul-start c = omega arith
 
@@ -57,14 +61,14 @@ element-copy-out-code c = omega arith
 
 sub-encode : tie.Need-sub-encode Inv-loop μ-loop
 sub-encode c =
-    let a = c .before .before .before .before .before .before .before .before .args in
-    let p = c .before .before .before .before .before .before .before .before .pre .0 in
+    let a = begun (c .before .before .before) .args in
+    let p = begun (c .before .before .before) .pre .0 in
     omega (arith, plan-spot (a .values .now) (p .0) (a .t4) (p .2) (c .before .before .before .loop .d) (omega arith) .room)
 
 part-encode-start : tie.Need-part-encode-start Inv-loop μ-loop
 part-encode-start c =
-    let a = c .before .before .before .before .before .before .before .before .args in
-    let p = c .before .before .before .before .before .before .before .before .pre .0 in
+    let a = begun (c .before .before .before) .args in
+    let p = begun (c .before .before .before) .pre .0 in
     omega (arith, plan-spot (a .values .now) (p .0) (a .t4) (p .2) (c .before .before .before .loop .d) (omega arith) .room)
 
 part-encode-end : tie.Need-part-encode-end Inv-loop μ-loop
@@ -76,8 +80,8 @@ level-values-requires c κs = omega arith
 encode-requires : tie.Need-encode-requires Inv-loop μ-loop
 encode-requires c κs =
     let l = c .before .before .before .before .before .before .loop in
-    let a = c .before .before .before .before .before .before .before .before .before .before .before .args in
-    let p = c .before .before .before .before .before .before .before .before .before .before .before .pre .0 in
+    let a = begun (c .before .before .before .before .before .before) .args in
+    let p = begun (c .before .before .before .before .before .before) .pre .0 in
     let values = a .values .now in
     let d = l .d in
     let k = plan-spot values (p .0) (a .t4) (p .2) d (omega arith) in
@@ -95,16 +99,17 @@ loop-less c = omega arith
 
 loop-again : tie.Need-loop-again Inv-loop μ-loop
 loop-again c =
-    let l = c .before .before .before .before .before .before .before .before .before .before .before .loop in
-    let a = c .before .before .before .before .before .before .before .before .before .before .before .before .before .before .before .before .args in
-    let p = c .before .before .before .before .before .before .before .before .before .before .before .before .before .before .before .before .pre .0 in
+    let level = c .before .before .before .before .before in
+    let l = level .before .before .before .before .before .before .loop in
+    let a = begun (level .before .before .before .before .before .before) .args in
+    let p = begun (level .before .before .before .before .before .before) .pre .0 in
     let values = a .values .now in
     let d = l .d in
     let at = getD (a .t4 .ends) d 0 in
     let k = plan-spot values (p .0) (a .t4) (p .2) d (omega arith) in
     let enc = c .before .before .before .before .encode in
-    let vs = c .before .before .before .before .before .level-values .result .now in
-    let q = k .part-is vs (c .before .before .before .before .before .level-values .ensures) in
+    let vs = level .level-values .result .now in
+    let q = k .part-is vs (level .level-values .ensures) in
     let lent = midOf at (length (l .out) - at) (l .out) in
     let exit : enc .last .0 ≡ part (getD (a .t4 .codes) d 0) vs ++ drop (enc .result) lent = enc .ensures .1 .0 in
     let size : enc .result ≡ length (part (getD (a .t4 .codes) d 0) vs) = enc .ensures .0 in
@@ -132,9 +137,9 @@ same-length-2 c = omega arith
 returns : tie.Need-returns Inv-loop μ-loop
 returns c =
     let l = c .before .loop in
-    let a = c .before .before .before .before .before .before .args in
+    let a = begun (c .before) .args in
     let all : l .d ≡ height (length (a .values .now)) = omega arith in
-    rw (plan-pins (a .values .now) (a .t4) (c .before .before .before .before .before .before .pre .0 .2)) (rw all at (l .inv .6))
+    rw (plan-pins (a .values .now) (a .t4) (begun (c .before) .pre .0 .2)) (rw all at (l .inv .6))
 
 pub put-parts-spec : {M : Type 1} → statement M
 put-parts-spec =

@@ -18,10 +18,14 @@ use Rattle.strip.proofs.writing.put_strip.Tie as tie
 put-header-requires : tie.Need-put-header-requires
 put-header-requires c κs = omega (arith, length-strip (c .before .before .before .before .args .values .now))
 
+-- the start, seen from where the header is written
+abbrev start : tie.After-put-header → tie.Start
+start c = c .before .before .before .before .before
+
 put-entries-requires : tie.Need-put-entries-requires
 put-entries-requires c κs =
-    let a = c .before .before .before .before .before .before .before .before .args in
-    let p = c .before .before .before .before .before .before .before .before .pre .0 in
+    let a = start (c .before .before .before) .args in
+    let p = start (c .before .before .before) .pre .0 in
     let values = a .values .now in
     let n = plan-pins values (a .levels) (p .2) in
     let in-order : (d : ℕ) → d < height (a .levels .pins) → getD (a .levels .ends) d 0 ≤ getD (a .levels .ends) (d + 1) 0 =
@@ -39,13 +43,15 @@ same-length-2 c = search needs
 
 returns : tie.Need-returns
 returns c =
-    let a = c .before .before .before .before .before .before .before .before .before .before .before .before .before .before .before .before .before .before .args in
-    let p = c .before .before .before .before .before .before .before .before .before .before .before .before .before .before .before .before .before .before .pre in
+    let entries = c .before .before .before .before .before .before .before .before .before in
+    let header = entries .before .before .before .before in
+    let a = start header .args in
+    let p = start header .pre in
     let n = a .levels .pins in
     let h = height n in
     c .before .before .before .before .put-parts .ensures
-    ∙ ap (λ (o : List ℕ). replaced o (partsStart n) (joined (partFor (a .values .now)) h)) (c .before .before .before .before .before .before .before .before .before .put-entries .ensures)
-    ∙ ap (λ (o : List ℕ). replaced (replaced o 7 (joined (entryIn (a .levels)) h)) (partsStart n) (joined (partFor (a .values .now)) h)) (c .before .before .before .before .before .before .before .before .before .before .before .before .before .put-header .ensures)
+    ∙ ap (λ (o : List ℕ). replaced o (partsStart n) (joined (partFor (a .values .now)) h)) (entries .put-entries .ensures)
+    ∙ ap (λ (o : List ℕ). replaced (replaced o 7 (joined (entryIn (a .levels)) h)) (partsStart n) (joined (partFor (a .values .now)) h)) (header .put-header .ensures)
     ∙ strip-written (a .values .now) (p .0 .0) (a .levels) (p .0 .2) (a .out .now) (p .1)
 
 pub put-strip-spec : {M : Type 1} → statement M

@@ -23,7 +23,7 @@ same-length c = search needs
 
 returns : tie.Need-returns
 unfolding sweepOf sweepOutput
-returns c = rw (opening-is (c .before .before .before .before .before .before .before .before .before .before .args .s .now) (c .before .before .before .before .before .before .opening-of .result) _ (c .before .before .before .before .before .before .opening-of .ensures .0) (c .before .before .before .before .enum-told .given .1)) (c .before .before .sweep-open .ensures)
+returns c = let o = c .before .before .before .before .before .before in rw (opening-is (o .before .before .before .before .args .s .now) (o .opening-of .result) _ (o .opening-of .ensures .0) (c .before .before .before .before .enum-told .given .1)) (c .before .before .sweep-open .ensures)
 
 returns-2 : tie.Need-returns-2
 unfolding sweepOf sweepOutput

@@ -26,7 +26,7 @@ same-length c = search needs
 
 returns : tie.Need-returns
 unfolding unpackOf unpackOutput checkOf plainList
-returns c = rw (opening-is (c .before .before .before .before .before .before .before .before .before .before .args .s .now) (c .before .before .before .before .before .before .before .opening-of .result) _ (c .before .before .before .before .before .before .before .opening-of .ensures .0) (c .before .before .before .before .before .enum-told .given .1)) (c .checked-of .ensures _ (c .before .before .before .read-open .ensures .0), c .before .before .before .read-open .ensures .1)
+returns c = let o = c .before .before .before .before .before .before .before in rw (opening-is (o .before .before .before .args .s .now) (o .opening-of .result) _ (o .opening-of .ensures .0) (c .before .before .before .before .before .enum-told .given .1)) (c .checked-of .ensures _ (c .before .before .before .read-open .ensures .0), c .before .before .before .read-open .ensures .1)
 
 returns-2 : tie.Need-returns-2
 unfolding unpackOf unpackOutput checkOf plainList
