@@ -1,7 +1,7 @@
 -- What is known of the times that were listed, of what is told of them, and of what unpack leaves.
 use mathlib.Core.Path.{_≡_, refl, sym, ap, _∙_}
-use mathlib.Core.Bool.{Bool, true, false, not, cond, false≢true}
-use mathlib.Core.List.{List}
+use mathlib.Core.Bool.{Bool, true, false, not, false≢true}
+use mathlib.Core.List.{List, [], _∷_}
 use mathlib.Core.Option.{none, some}
 use Prim.Native.Nat.{ℕ, _-_, _^_, _≤_, _<_}
 use native.Mathlib.Nat.{zero-add}
@@ -27,11 +27,11 @@ use Rattle.strip.specs.declared.reading.Asked.the-variants as asking
 use Rattle.strip.specs.Lists.{firstLower}
 use Rattle.strip.specs.Image.{image}
 use Rattle.strip.specs.Opening.{opening}
-use Rattle.strip.specs.Calls.{roomFor, listIn, checkIn}
+use Rattle.strip.specs.Calls.{roomFor, listIn, imageTest, checkIn}
 use Rattle.strip.specs.Read.{unpackIn, gapOr, counted, gapOf, imageIn, endIn, listRead}
 use Rattle.strip.proofs.OpenImages.{open-image, open-packable, image-chosen}
-use Rattle.strip.proofs.Readings.{ending, repeat-lists, falls-first, last, check-lists, check-all, check-stopped}
-use Rattle.strip.proofs.Verdicts.{verdict-passed}
+use Rattle.strip.proofs.Readings.{ending, repeat-lists, fallsTest, falls-first, check-lists}
+use Rattle.strip.proofs.Verdicts.{outcome-passed, verdict-passed}
 
 -- the levels of an open strip have at most 65,535 pins
 pub pins-few : (levels : Levels) (s : List ℕ) → Fits levels s → levels .pins < 2 ^ 16
@@ -84,15 +84,14 @@ module _ (s : List ℕ) (levels : Levels) (o : opening s ≡ gives levels) (byte
       let xs = listIn s levels in
       sym (after-gives (gapOr 0 xs (after stop (λ _. imageIn s levels)))) ∙ falls-first xs (after stop (λ _. imageIn s levels)) gives
       ∙ go (ordered xs) refl stop e
-      ∙ ap counted (ap (λ (z : Test). cond (not (ordered xs)) (refuses 11 (firstLower xs)) (after z (λ _. last s levels))) e ∙ sym (check-lists s levels))
+      ∙ ap counted (ap (λ (z : Test). verdict (fallsTest xs ∷ z ∷ imageTest s levels ∷ []) (levels .pins)) e ∙ sym (check-lists s levels))
     where
       told : (b : Bool) → after (after (test (not b) 12 0) (λ _. gives (some (levels .pins)))) gives ≡ counted (after (test (not b) 12 0) (λ _. gives (levels .pins)))
       told true = refl
       told false = refl
 
-      go : (b : Bool) → ordered (listIn s levels) ≡ b → (z : Test) → z ≡ stopAll levels s
-          → cond (not b) (refuses 11 (firstLower (listIn s levels))) (after (after z (λ _. imageIn s levels)) gives)
-          ≡ counted (cond (not b) (refuses 11 (firstLower (listIn s levels))) (after z (λ _. last s levels)))
+      go : (b : Bool) → ordered (listIn s levels) ≡ b → (z : Test) → z ≡ stopAll levels s → let falls = test (not b) 11 (firstLower (listIn s levels)) in
+          after falls (λ _. after (after z (λ _. imageIn s levels)) gives) ≡ counted (after falls (λ _. after z (λ _. verdict (imageTest s levels ∷ []) (levels .pins))))
       go false p z q = refl
       go true p (refuses r c) q = refl
       go true p (gives u) q = rw (chosen-is (sym q) p) (told (same (image (listIn s levels)) s))
@@ -114,18 +113,11 @@ module _ (s : List ℕ) (levels : Levels) where
     pub image-is : same (image (listIn s levels)) s ≡ true
 
   pub accepts : (n : ℕ) → gives n ≡ checkIn s levels → Accepts n
-  accepts n e = go (stopAll levels s) refl
-    where
-      refused : (o : Bool) (r c q : ℕ) → gives n ≡ cond (not o) (refuses 11 q) (refuses r c) → ⊥
-      refused true r c q f = outcome-laws .never f
-      refused false r c q f = outcome-laws .never f
-
-      go : (z : Test) → stopAll levels s ≡ z → Accepts n
-      go (gives u) z =
-          let a = verdict-passed (not (ordered (listIn s levels))) _ _ _ _ n (sym (e ∙ check-all s levels z)) in
-          let b = verdict-passed (not (same (image (listIn s levels)) s)) _ _ _ _ n (a .1) in
-          record { all = z; pins = sym (outcome-laws .given _ _ n (b .1)); in-order = not-false _ (a .0); image-is = not-false _ (b .0) }
-      go (refuses r c) z = absurd (refused (ordered (listIn s levels)) r c (firstLower (listIn s levels)) (e ∙ check-stopped s levels r c z))
+  accepts n e =
+      let a = verdict-passed (not (ordered (listIn s levels))) _ _ _ _ n (sym (e ∙ check-lists s levels)) in
+      let b = outcome-passed (stopAll levels s) _ _ n (a .1) in
+      let c = verdict-passed (not (same (image (listIn s levels)) s)) _ _ _ _ n (b .1) in
+      record { all = b .0; pins = sym (outcome-laws .given _ _ n (c .1)); in-order = not-false _ (a .0); image-is = not-false _ (c .0) }
 
   pub accepted-count : (n : ℕ) → gives n ≡ checkIn s levels → length (listIn s levels) ≡ n
   unfolding listIn

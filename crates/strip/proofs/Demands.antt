@@ -43,7 +43,7 @@ use Rattle.strip.specs.Promises.{Opens}
 use Rattle.strip.specs.Demands.{PacksTo, UnpacksTo, Accepted, CheckAccepts, Demand2, SweepsAs, Demand3, WalkerLists}
 use Rattle.strip.proofs.Verdicts.{verdict-passed}
 use Rattle.strip.proofs.Sweeps.{targets-follow}
-use Rattle.strip.proofs.Readings.{check-all}
+use Rattle.strip.proofs.Readings.{check-lists}
 use Rattle.strip.proofs.OpenImages.{open-packable}
 use Rattle.strip.proofs.Checks.{accepts}
 use Rattle.strip.proofs.Promises.{image-opens, round-trip}
@@ -92,7 +92,7 @@ module _ (xs : List ℕ) (p : Packable xs) where
   unfolding checkOf verdict test
   check-back =
       let o : ordered xs ≡ true = is-true (ordered xs) (p .in-order) in
-      rw (opens .bits .opened) (check-all (image xs) levels (reads .stop) ∙ rw (list-back, o, list-laws .same-itself (image xs)) (ap gives (held .stores .pins-are)))
+      rw (opens .bits .opened) (check-lists (image xs) levels ∙ rw (list-back, o, reads .stop, list-laws .same-itself (image xs)) (ap gives (held .stores .pins-are)))
 
   unpacks-back : (out : List ℕ) → length xs ≤ length out → UnpacksTo (image xs) xs out
   unfolding unpackOf unpackOutput verdict test

@@ -156,41 +156,24 @@ module _ (answer : ℕ → Outcome Found) {A : Type 0} (rest : List Test) (a : A
       go (gives u) e = e
       go (refuses r c) e = refl
 
-pub falls-first : {A : Type 0} (xs : List ℕ) (end : Outcome (Option ℕ)) (f : Option ℕ → Outcome A)
-    → after (gapOr 0 xs end) f ≡ cond (not (ordered xs)) (refuses 11 (firstLower xs)) (after end f)
+-- 11 for the times of the positions from 0 on
+abbrev pub fallsTest : List ℕ → Test
+fallsTest xs = test (not (ordered xs)) 11 (firstLower xs)
+
+pub falls-first : {A : Type 0} (xs : List ℕ) (end : Outcome (Option ℕ)) (f : Option ℕ → Outcome A) → after (gapOr 0 xs end) f ≡ after (fallsTest xs) (λ _. after end f)
+unfolding test
 falls-first xs end f = elim (decLt (firstNear 0 xs) (length xs)) [
   | yes l ↦
       rw (not-ordered xs (rw (lower-near xs) l), lower-near xs, lt-ltb (firstNear 0 xs) (length xs) l, lt-ltb (getD xs (firstNear 0 xs) 0) (getD xs (firstNear 0 xs - 1) 0) (omega (arith, near-at 0 xs l)))
   | no l ↦ rw (is-ordered xs (rw (lower-near xs) (omega arith)), le-ltb (firstNear 0 xs) (length xs) (omega arith))
 ]
 
--- 11 for the times of the positions from 0 on
-abbrev fallsTest : List ℕ → Test
-fallsTest xs = test (not (ordered xs)) 11 (firstLower xs)
-
-module _ (s : List ℕ) (levels : Levels) where
-  -- 12
-  abbrev pub last : Outcome ℕ
-  last = verdict (imageTest s levels ∷ []) (levels .pins)
-
-  -- 11 for the times that are listed, then the refusal that ends them, then 12
-  pub check-lists : checkIn s levels ≡ cond (not (ordered (listIn s levels))) (refuses 11 (firstLower (listIn s levels))) (after (stopAll levels s) (λ _. last))
-  unfolding listIn
-  check-lists =
-      check-repeats (accesses levels s) (imageTest s levels ∷ []) (levels .pins) (levels .pins) 0
-      ∙ ap (λ (o : Outcome (Option ℕ)). after o (λ _. last)) (repeat-lists (accesses levels s) 0 (levels .pins))
-      ∙ falls-first (timesAll levels s) (ending (stopAll levels s)) (λ _. last)
-      ∙ ap (cond (not (ordered (timesAll levels s))) (refuses 11 (firstLower (timesAll levels s)))) (after-after (stopAll levels s) (λ _. gives none) (λ _. last))
-
-  -- every position has a time
-  pub check-all : stopAll levels s ≡ gives tt → checkIn s levels ≡ verdict (fallsTest (listIn s levels) ∷ imageTest s levels ∷ []) (levels .pins)
-  unfolding verdict test
-  check-all e = check-lists ∙ rw e (falls-then (ordered (listIn s levels)) last)
-    where
-      falls-then : (b : Bool) (x : Outcome ℕ) → cond (not b) (refuses 11 (firstLower (listIn s levels))) x ≡ after (test (not b) 11 (firstLower (listIn s levels))) (λ _. x)
-      falls-then true x = refl
-      falls-then false x = refl
-
-  -- one is refused
-  pub check-stopped : (r c : ℕ) → stopAll levels s ≡ refuses r c → checkIn s levels ≡ cond (not (ordered (listIn s levels))) (refuses 11 (firstLower (listIn s levels))) (refuses r c)
-  check-stopped r c e = check-lists ∙ rw e
+-- 11 for the times that are listed, then the refusal that ends them, then 12
+pub check-lists : (s : List ℕ) (levels : Levels) → checkIn s levels ≡ verdict (fallsTest (listIn s levels) ∷ stopAll levels s ∷ imageTest s levels ∷ []) (levels .pins)
+unfolding listIn verdict
+check-lists s levels =
+    let last : Outcome ℕ = verdict (imageTest s levels ∷ []) (levels .pins) in
+    check-repeats (accesses levels s) (imageTest s levels ∷ []) (levels .pins) (levels .pins) 0
+    ∙ ap (λ (o : Outcome (Option ℕ)). after o (λ _. last)) (repeat-lists (accesses levels s) 0 (levels .pins))
+    ∙ falls-first (timesAll levels s) (ending (stopAll levels s)) (λ _. last)
+    ∙ ap (λ (o : Outcome ℕ). after (fallsTest (timesAll levels s)) (λ _. o)) (after-after (stopAll levels s) (λ _. gives none) (λ _. last))

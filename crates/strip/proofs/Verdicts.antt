@@ -15,7 +15,12 @@ module _ {A : Type 0} (r c : ℕ) (ts : List Test) (a : A) where
   unfolding verdict test
   verdict-passes b e = rw e
 
--- what is given is what comes after the tests, of which none holds
+-- what is given is what comes after the tests, of which none refuses
+pub outcome-passed : {A : Type 0} (o : Test) (ts : List Test) (a x : A) → verdict (o ∷ ts) a ≡ gives x → (o ≡ gives tt) × (verdict ts a ≡ gives x)
+unfolding verdict
+outcome-passed (gives u) ts a x e = (refl, e)
+outcome-passed (refuses r c) ts a x e = absurd (outcome-laws .never (sym e))
+
 pub verdict-passed : {A : Type 0} (b : Bool) (r c : ℕ) (ts : List Test) (a x : A) → verdict (test b r c ∷ ts) a ≡ gives x → (b ≡ false) × (verdict ts a ≡ gives x)
 unfolding verdict test
 verdict-passed true r c ts a x e = absurd (outcome-laws .never (sym e))
