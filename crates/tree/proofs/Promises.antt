@@ -13,7 +13,7 @@ use Rattle.tree.specs.Times.{timesIn}
 use Rattle.tree.specs.Listing.{accesses}
 use Rattle.tree.specs.Walks.{toward, accessAnswer}
 use Rattle.tree.specs.Promises.{HeightLeast, Shape, Contents, HeldReads, DifferentFew, AccessOpens, StoredLevels, ListingFinds, ChosenStored, StoredChosen, DecodedChosen, ZeroMarks, OutcomeLaws, SweepRises}
-use Rattle.tree.proofs.Heights.{digits, height-bound, height-le}
+use Rattle.tree.proofs.Heights.{digits, height-above, height-bound, height-le}
 use Rattle.tree.proofs.NodeFetches.{level-is}
 use Rattle.tree.proofs.Stretches.{stretch-root, stretch-left, stretch-right, node-iff}
 use Rattle.tree.proofs.Inorder.{tree}
@@ -53,7 +53,7 @@ shape n = record {
   ranks = rank-lt n;
   each = λ i h. rank-found (tree n) i (omega arith) h;
   once = rank-once n;
-  level = λ v. rw (fromRoot-length v);
+  level = λ v h. rw (fromRoot-length v) (omega (arith, height-above v 0 h));
   levels = λ v d h k. (level-from n v d h k, λ b. level-is d v (b .0) (omega (arith, pow-pos d)));
   paths = λ stop past v h. walk-length n stop past v h;
 }

@@ -44,9 +44,9 @@ pub record Shape (n : ℕ) : Type 0 where
   pub ranks : (v : ℕ) → 1 ≤ v → v ≤ n → rank n v < n
   pub each : (i : ℕ) → i < n → (v : ℕ) × (1 ≤ v) × (v ≤ n) × (rank n v ≡ i)
   pub once : (u v : ℕ) → 1 ≤ u → u ≤ n → 1 ≤ v → v ≤ n → rank n u ≡ rank n v → u ≡ v
-  -- a node's level is the number of nodes above it on the way from the root, and the level below d others, 01's level d + 1, holds nodes
+  -- a node's level is the number of nodes above it on the way from the root; the level below d others, 01's level d + 1, holds nodes
   -- 2 ^ d to min(n, 2 ^ (d + 1) - 1)
-  pub level : (v : ℕ) → levelOf v ≡ length (fromRoot v) - 1
+  pub level : (v : ℕ) → 1 ≤ v → suc (levelOf v) ≡ length (fromRoot v)
   pub levels : (v d : ℕ) → 1 ≤ v → v ≤ n → (levelOf v ≡ d) ↔ ((2 ^ d ≤ v) × (v ≤ min n (2 ^ suc d - 1)))
   -- no walk down, whatever its tests, has more nodes than the height
   pub paths : (stop past : ℕ → Bool) (v : ℕ) → 1 ≤ v → length (walk n stop past v) ≤ height n
