@@ -121,7 +121,7 @@ module _ (s : List ℕ) (levels : Levels) where
 
   pub accepted-count : (n : ℕ) → gives n ≡ checkIn s levels → length (listIn s levels) ≡ n
   unfolding listIn
-  accepted-count n e = let a = accepts n e in listing-finds .count levels s (a .all) ∙ sym (a .pins)
+  accepted-count n e = let a = accepts n e in listing-finds .count _ (levels .pins) (a .all) ∙ sym (a .pins)
 
   -- unpack's answer, where check refuses and where it accepts
   pub unpack-refused : (room r c : ℕ) → refuses r c ≡ checkIn s levels → refuses r c ≡ unpackIn s room levels

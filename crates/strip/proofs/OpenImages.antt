@@ -176,7 +176,7 @@ open-image s levels e bytes all chosen =
     list = timesAll levels s
 
     count : length list ≡ levels .pins
-    count = listing-finds .count levels s all
+    count = listing-finds .count _ (levels .pins) all
 
     level : (d : ℕ) → d < height (levels .pins) → let vs = levelValues (storedValues list) d in
         (chosenFor vs .code ≡ codeOf levels d) × (part (codeOf levels d) vs ≡ partOf (levels .ends) s d)
@@ -205,7 +205,7 @@ module _ (s : List ℕ) (levels : Levels) (e : opening s ≡ gives levels) (all 
   count : length xs ≡ pinsOf s
   unfolding opening listIn laidOut
   count =
-      listing-finds .count levels s all
+      listing-finds .count _ (levels .pins) all
       ∙ ap (λ (l : Levels). l .pins) (sym (outcome-laws .given _ (levelsIn s) levels e))
 
   has-pins : (pinsOf s ≡ 0 → ⊥)
@@ -228,6 +228,6 @@ module _ (s : List ℕ) (levels : Levels) (e : opening s ≡ gives levels) (all 
   open-packable = record {
     some = omega (arith, count, has-pins);
     few = pins-few;
-    times = listing-finds .within levels s;
+    times = listing-finds .within levels s (levels .pins);
     in-order = rw in-order tt;
   }

@@ -3,7 +3,7 @@ use mathlib.Core.Path.{_≡_, refl, sym, ap, _∙_}
 use mathlib.Core.Bool.{Bool, true, false, cond}
 use mathlib.Core.List.{List}
 use mathlib.Core.Option as Option
-use Prim.Native.Nat.{ℕ, suc, _-_, _^_, _≤_}
+use Prim.Native.Nat.{ℕ, suc, _-_, _^_, _≤_, _<_}
 use native.Mathlib.Decide.{decLt}
 use native.Mathlib.Omega.{arith}
 use lib.Dec.{leb}
@@ -96,12 +96,13 @@ repeat-later s r i e = rw (ap positionOr1 e) at (go (opening s))
     go (gives levels) = repeat-positive (accesses levels s) r (levels .pins)
     go (refuses q c) = omega arith
 
--- what an access gives has a node or more
-opens-some : (s : List ℕ) (i : ℕ) (levels : Levels) (f : Found) → accessIn s i levels ≡ gives f → 1 ≤ f .nodes
+-- what an access gives has 32 bits, and a node or more
+opens-some : (s : List ℕ) (i : ℕ) (levels : Levels) (f : Found) → accessIn s i levels ≡ gives f → (f .value < 2 ^ 32) × (1 ≤ f .nodes)
 unfolding test
 opens-some s i levels f e = elim (decLt i (levels .pins)) [
   | yes l ↦
-      omega (arith, access-opens .count (levels .pins) _ i f (rw (lt-leb (levels .pins) i l) at e), access-opens .some (levels .pins) i (omega arith))
+      let given : accesses levels s i ≡ gives f = rw (lt-leb (levels .pins) i l) at e in
+      (access-opens .small levels s i f given, omega (arith, access-opens .count (levels .pins) _ i f given, access-opens .some (levels .pins) i (omega arith)))
   | no l ↦ absurd (outcome-laws .never (sym (rw (le-leb (levels .pins) i (omega arith)) at e)))
 ]
 
@@ -109,15 +110,15 @@ pub time-opens : TimeOpens
 unfolding accessOf stepOf
 time-opens = record { access = λ s i f. access s i f (opening s); step = λ s i f. step s i f (opening s) }
   where
-    access : (s : List ℕ) (i : ℕ) (f : Found) (o : Outcome Levels) → after o (accessIn s i) ≡ gives f → 1 ≤ f .nodes
+    access : (s : List ℕ) (i : ℕ) (f : Found) (o : Outcome Levels) → after o (accessIn s i) ≡ gives f → (f .value < 2 ^ 32) × (1 ≤ f .nodes)
     access s i f (gives levels) e = opens-some s i levels f e
     access s i f (refuses r c) e = absurd (outcome-laws .never (sym e))
 
-    step : (s : List ℕ) (i : ℕ) (f : Found) (o : Outcome Levels) → after o (stepIn s i) ≡ gives (Option.some f) → 1 ≤ f .nodes
+    step : (s : List ℕ) (i : ℕ) (f : Found) (o : Outcome Levels) → after o (stepIn s i) ≡ gives (Option.some f) → (f .value < 2 ^ 32) × (1 ≤ f .nodes)
     step s i f (refuses r c) e = absurd (outcome-laws .never (sym e))
     step s i f (gives levels) e = go (leb (levels .pins) i) (accessIn s i levels) refl e
       where
-        go : (b : Bool) (a : Outcome Found) → accessIn s i levels ≡ a → cond b (gives Option.none) (after a (λ g. gives (Option.some g))) ≡ gives (Option.some f) → 1 ≤ f .nodes
+        go : (b : Bool) (a : Outcome Found) → accessIn s i levels ≡ a → cond b (gives Option.none) (after a (λ g. gives (Option.some g))) ≡ gives (Option.some f) → (f .value < 2 ^ 32) × (1 ≤ f .nodes)
         go true a p q = absurd (let z : _≡_ {A = ℕ} 0 1 = cc in omega arith)
         go false (gives g) p q = opens-some s i levels f (p ∙ ap gives (same q))
           where

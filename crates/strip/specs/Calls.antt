@@ -115,7 +115,8 @@ sweepIn s ts room levels = after (verdict (sweepTests ts room) levels) (λ l. sw
 unfoldable pub sweepOf : List ℕ → List ℕ → ℕ → Outcome ℕ
 sweepOf s ts room = after (opening s) (sweepIn s ts room)
 
--- the answers after it: the positions of the targets before the one that is refused, or of all; later ones as they were
+-- The answers after it: the positions of the targets before the one that is refused, or of all; later ones as they were. A refusal before
+-- the first target writes nothing.
 abbrev pub sweepOver : List ℕ → List ℕ → List ℕ → Levels → List ℕ
 sweepOver s ts answers levels =
     follow (λ r c. answers) (verdict (sweepTests ts (length answers)) levels) (λ l. atFront (sweepPositions (l .pins) (timesIn l s) ts) answers)

@@ -48,7 +48,7 @@ RoundTrip = (xs : List ℕ) → Packable xs → ReadsBack xs
 abbrev pub RepeatLater : Type 0
 RepeatLater = (s : List ℕ) (r i : ℕ) → repeatOf s r ≡ gives (some i) → 1 ≤ i
 
--- 5. An access or a step that gives a time, on any strip, has opened a node or more. So no nodes can say end.
+-- 5. An access or a step that gives a time, on any strip, gives one of 32 bits and has opened a node or more. So no nodes can say end.
 pub record TimeOpens : Type 0 where
-  pub access : (s : List ℕ) (i : ℕ) (f : Found) → accessOf s i ≡ gives f → 1 ≤ f .nodes
-  pub step : (s : List ℕ) (i : ℕ) (f : Found) → stepOf s i ≡ gives (some f) → 1 ≤ f .nodes
+  pub access : (s : List ℕ) (i : ℕ) (f : Found) → accessOf s i ≡ gives f → (f .value < 2 ^ 32) × (1 ≤ f .nodes)
+  pub step : (s : List ℕ) (i : ℕ) (f : Found) → stepOf s i ≡ gives (some f) → (f .value < 2 ^ 32) × (1 ≤ f .nodes)

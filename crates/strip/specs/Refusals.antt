@@ -40,5 +40,6 @@ carried Position = 0
 carried Answers = 0
 carried (TargetsFall i) = i
 
+-- as an outcome
 abbrev pub refusal : {A : Type 0} → Refusal → Outcome A
 refusal r = refuses (refusalNumber r) (carried r)

@@ -15,6 +15,7 @@ given x k = record { refusal = 0; value = x; nodes = k }
 abbrev pub refused : ℕ → ℕ → Answer
 refused r c = record { refusal = r; value = c; nodes = 0 }
 
+-- of a walk, or the refusal
 abbrev pub ofWalk : Outcome Found → Answer
 ofWalk o = follow refused o (λ f. given (f .value) (f .nodes))
 

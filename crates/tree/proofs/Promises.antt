@@ -10,7 +10,6 @@ use Rattle.tree.specs.Shape.{rank}
 use Rattle.tree.specs.Levels.{levelOf, fetchedAt}
 use Rattle.tree.specs.declared.walking.Found.{Found}
 use Rattle.tree.specs.Times.{timesIn}
-use Rattle.tree.specs.Listing.{accesses}
 use Rattle.tree.specs.Walks.{toward, accessAnswer}
 use Rattle.tree.specs.Promises.{HeightLeast, Shape, Contents, HeldReads, DifferentFew, AccessOpens, StoredLevels, ListingFinds, ChosenStored, StoredChosen, DecodedChosen, ZeroMarks, OutcomeLaws, SweepRises}
 use Rattle.tree.proofs.Heights.{digits, height-above, height-bound, height-le}
@@ -25,7 +24,7 @@ use Rattle.tree.proofs.Paths.{toward-rank, rank-once, fromRoot-length, 
 use Rattle.tree.proofs.Sweeps.{sweep-positions, sweep-answer, sweep-once, sweep-sums, different-pins, different-heights}
 use Rattle.tree.proofs.Contents.{times-back}
 use Rattle.tree.proofs.Listings.{times-all, times-known}
-use Rattle.tree.proofs.TimeBounds.{times-within}
+use Rattle.tree.proofs.TimeBounds.{access-small, times-within}
 use Rattle.tree.proofs.ListedValues.{listed-chosen}
 use Rattle.tree.proofs.LevelMarks.{marks-zero}
 use Rattle.tree.proofs.AllValues.{all-of}
@@ -87,16 +86,14 @@ access-opens = record {
   some = λ n i h. rw (toward-on n i 1 (le-refl 1) h) (omega arith);
   few = λ n i. walk-length n (λ v. eqb (rank n v) i) (λ v. ltb (rank n v) i) 1 (le-refl 1);
   count = λ n time i f e. ap (λ (g : Found). g .nodes) (sym (met-gives time (toward n i) _ f e));
+  small = access-small;
 }
 
 pub stored-levels : StoredLevels
 stored-levels = record { count = length-stored; within = stored-within; level-within = level-within; half = level-half; above = level-above }
 
 pub listing-finds : ListingFinds
-listing-finds = record {
-  within = λ levels s. times-within levels s (levels .pins) 0;
-  count = λ levels s. times-all (accesses levels s) (levels .pins) 0;
-}
+listing-finds = record { within = λ levels s k. times-within levels s k 0; count = λ answer k. times-all answer k 0 }
 
 pub chosen-stored : ChosenStored
 chosen-stored = listed-chosen

@@ -39,7 +39,7 @@ time-within fetch v = go (height v) v
     go zero u = omega arith
     go (suc f) u = below (nodeTimeIn f fetch (u / 2)) (go f (u / 2)) u (fetch u)
 
-access-small : (levels : Levels) (s : List ℕ) (i : ℕ) (f : Found) → accesses levels s i ≡ gives f → f .value < 2 ^ 32
+pub access-small : (levels : Levels) (s : List ℕ) (i : ℕ) (f : Found) → accesses levels s i ≡ gives f → f .value < 2 ^ 32
 unfolding accessAnswer
 access-small levels s i f e =
     let nodes = toward (levels .pins) i in

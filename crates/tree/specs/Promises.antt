@@ -21,7 +21,7 @@ use Rattle.tree.specs.LevelMarks.{LevelMarks}
 use Rattle.tree.specs.declared.walking.Found.{Found}
 use Rattle.tree.specs.Outcomes.{Outcome, gives, refuses, after, verdict}
 use Rattle.tree.specs.Times.{timesIn}
-use Rattle.tree.specs.Listing.{timesFrom, stopFrom, timesAll, stopAll}
+use Rattle.tree.specs.Listing.{accesses, timesFrom, stopFrom, timesAll, stopAll}
 use Rattle.tree.specs.DecodedLevels.{decodedLevels, Decodes}
 use Rattle.tree.specs.Chosen.{allChosen}
 use Rattle.tree.specs.Walks.{walk, found, toward, accessAnswer, searchNodes, searchAnswer, path, fromRoot}
@@ -85,12 +85,14 @@ pub record DifferentFew : Type 0 where
   pub pins : (xs ts : List ℕ) → different xs ts ≤ length xs
   pub heights : (xs ts : List ℕ) → different xs ts ≤ length ts * height (length xs)
 
--- 4. An access at i opens the nodes from the root to the one of rank i, one or more and at most the height, and counts them.
+-- 4. An access at i opens the nodes from the root to the one of rank i, one or more and at most the height, and counts them. What it gives
+-- is a time of 32 bits.
 pub record AccessOpens : Type 0 where
   pub nodes : (n v : ℕ) → 1 ≤ v → v ≤ n → toward n (rank n v) ≡ fromRoot v
   pub some : (n i : ℕ) → 1 ≤ n → 1 ≤ length (toward n i)
   pub few : (n i : ℕ) → length (toward n i) ≤ height n
   pub count : (n : ℕ) (time : ℕ → Outcome ℕ) (i : ℕ) (f : Found) → accessAnswer n time i ≡ gives f → f .nodes ≡ length (toward n i)
+  pub small : (levels : Levels) (s : List ℕ) (i : ℕ) (f : Found) → accesses levels s i ≡ gives f → f .value < 2 ^ 32
 
 -- 5. There are as many stored values as times, and none has more bits than the times. A level has at most half of them, rounded up;
 -- with the nodes above it, at most as many as there are nodes down to it.
@@ -103,8 +105,8 @@ pub record StoredLevels : Type 0 where
 
 -- 6. Every time that is listed has 32 bits. Where nothing is refused every position has one.
 pub record ListingFinds : Type 0 where
-  pub within : (levels : Levels) (s : List ℕ) → Within 32 (timesAll levels s)
-  pub count : (levels : Levels) (s : List ℕ) → stopAll levels s ≡ gives tt → length (timesAll levels s) ≡ levels .pins
+  pub within : (levels : Levels) (s : List ℕ) (k : ℕ) → Within 32 (timesFrom (accesses levels s) k 0)
+  pub count : (answer : ℕ → Outcome Found) (k : ℕ) → stopFrom answer k 0 ≡ gives tt → length (timesFrom answer k 0) ≡ k
 
 -- 7. Where the levels are what pack writes for the values that they are decoded to, and every position has a time, these values are what
 -- the tree of the listed times stores.

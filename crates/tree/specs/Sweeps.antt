@@ -40,7 +40,7 @@ legsFrom n time from kept (t ∷ ts) = let l = leg n time t (dropped (isBelow ti
 abbrev pub legs : ℕ → (ℕ → Outcome ℕ) → List ℕ → List Leg
 legs n time ts = legsFrom n time 1 [] ts
 
--- all nodes that they open, in order; where one is refused, none after it
+-- All nodes that they open, in order, as if none were refused. A call ends at the first that is: `met`.
 unfoldable pub opened : List Leg → List ℕ
 opened [] = []
 opened (l ∷ ls) = l .nodes ++ opened ls

@@ -20,6 +20,7 @@ abbrev pub nodeOf : Refusal → ℕ
 nodeOf (refusals.Fetch v) = v
 nodeOf (refusals.Time v) = v
 
+-- as an outcome
 abbrev pub refusal : {A : Type 0} → Refusal → Outcome A
 refusal r = refuses (numberOf r) (nodeOf r)
 

@@ -12,7 +12,6 @@ ghost use Prim.Native.Nat.{_≤_};
 ghost use lib.ListN.{length};
 ghost use Rattle.codes.specs.Lists.{replaced, filledTo};
 ghost use Rattle.tree.specs.Levels.{Fits};
-ghost use Rattle.codes.specs.Lists.{replaced, filledTo};
 ghost use Rattle.tree.specs.Listing.{accesses, timesFrom, timesAll, Lists};
 ghost use Rattle.tree.specs.Standing.{Stands, Reaches};
 ghost use Rattle.tree.specs.DecodedLevels.{Decodes};

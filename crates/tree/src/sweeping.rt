@@ -13,7 +13,6 @@ ghost use lib.ListN.{length};
 ghost use Rattle.codes.specs.Lists.{replaced};
 ghost use Rattle.tree.specs.Levels.{Fits};
 ghost use Rattle.tree.specs.LevelMarks.{LevelMarks};
-ghost use Rattle.codes.specs.Lists.{replaced};
 ghost use Rattle.tree.specs.Times.{timesIn};
 ghost use Rattle.tree.specs.Sweeps.{sweepAnswer, sweepPositions, swept};
 

@@ -20,6 +20,7 @@ pub struct Found {
     pub nodes: usize,
 }
 
+// That, or why the walk stops.
 pub enum Walked {
     Found(Found),
     Refused(Refusal),

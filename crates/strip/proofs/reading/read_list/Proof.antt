@@ -72,7 +72,7 @@ returns c =
     let list = told .before .before .before .before .before .before in
     let a = start list .args in
     let all = told .enum-told .given .1 in
-    let count = listing-finds .count (a .levels) (a .s .now) (sym (sym (ap listed all) ∙ list .list .ensures .0 .outcome)) in
+    let count = listing-finds .count _ (a .levels .pins) (sym (sym (ap listed all) ∙ list .list .ensures .0 .outcome)) in
     let whole : list .list .last .0 ≡ listIn (a .s .now) (a .levels) = list .list .ensures .1 .0 ∙ list-laws .filled-whole (a .levels .pins) (listIn (a .s .now) (a .levels)) count in
     (c .gap-or .ensures ∙ rw (list .before .before .before .gap-of .ensures, whole, c .before .before .end-of .ensures) (told-lists list _ all), list .list .ensures .1 .0)
 
