@@ -14,8 +14,10 @@ static const uint8_t FALLING[] = {0x50, 0x49, 0x4E, 0x00, 0x01, 0x00, 0x05, 0x09
                                   0x00, 0x03, 0x08, 0x00, 0x00, 0x00, 0x02, 0xC8, 0x00, 0x25, 0xA5, 0x80, 0x96, 0x97};
 static const uint8_t OTHER[] = {0x50, 0x49, 0x4E, 0x00, 0x01, 0x00, 0x01, 0x41, 0x00, 0x00, 0x00, 0x01, 0x00};
 
-/* The examples of refusals 9 and 10: one pin in width 1 and no bytes; root 0 and node 2, which is at position 0, storing 1. */
-static const uint8_t NO_BITS[] = {0x50, 0x49, 0x4E, 0x00, 0x01, 0x00, 0x01, 0x01, 0x00, 0x00, 0x00, 0x00};
+/* The examples of refusals 9, 23 and 10: one pin in code 65 and in width 1, both with no bytes; root 0 and node 2, which is at
+ * position 0, storing 1. */
+static const uint8_t NO_BITS[] = {0x50, 0x49, 0x4E, 0x00, 0x01, 0x00, 0x01, 0x41, 0x00, 0x00, 0x00, 0x00};
+static const uint8_t CUT_LEVEL[] = {0x50, 0x49, 0x4E, 0x00, 0x01, 0x00, 0x01, 0x01, 0x00, 0x00, 0x00, 0x00};
 static const uint8_t BELOW[] = {0x50, 0x49, 0x4E, 0x00, 0x01, 0x00, 0x02, 0x00, 0x00,
                                 0x00, 0x00, 0x00, 0x01, 0x00, 0x00, 0x00, 0x01, 0x80};
 
@@ -66,6 +68,7 @@ static int walk_differs(void) {
   faults += step_differs("step where times fall", &next, FALLING, sizeof FALLING, 0, 400, 1, 4);
   next = 0;
   faults += step_differs("fetch in step", &next, NO_BITS, sizeof NO_BITS, GEMCOTTON_FETCH, 1, 0, 0);
+  faults += step_differs("level in step", &next, CUT_LEVEL, sizeof CUT_LEVEL, GEMCOTTON_LEVEL_LENGTH, 1, 0, 0);
   faults += step_differs("time in step", &next, BELOW, sizeof BELOW, GEMCOTTON_TIME, 2, 0, 0);
   next = 1;
   faults += step_differs("time 0, not end", &next, BELOW, sizeof BELOW, 0, 0, 1, 2);
@@ -95,6 +98,7 @@ int main(void) {
   faults += differs("times fall", gemcotton_check(FALLING, sizeof FALLING), GEMCOTTON_TIMES_FALL, 3, 0);
   faults += differs("times fall in unpack", gemcotton_unpack(list, 6, FALLING, sizeof FALLING), GEMCOTTON_TIMES_FALL, 3, 0);
   faults += differs("times fall in repeat", gemcotton_repeat(FALLING, sizeof FALLING, 150), GEMCOTTON_TIMES_FALL, 3, 0);
+  faults += differs("level", gemcotton_check(CUT_LEVEL, sizeof CUT_LEVEL), GEMCOTTON_LEVEL_LENGTH, 1, 0);
   faults += differs("image", gemcotton_check(OTHER, sizeof OTHER), GEMCOTTON_IMAGE, 0, 0);
   faults += differs("image in unpack", gemcotton_unpack(list, 6, OTHER, sizeof OTHER), GEMCOTTON_IMAGE, 0, 0);
   faults += memcmp(list, untouched, sizeof list) != 0;

@@ -45,14 +45,16 @@ enum gemcotton_refusal {
   GEMCOTTON_MARK = 6,       /* a mark other than PIN: 0 */
   GEMCOTTON_VERSION = 7,    /* a version other than 1: 0 */
   GEMCOTTON_CODE = 8,       /* a level code other than 0 to 32 and 65 to 72: the level, counted from 1 */
-  GEMCOTTON_FETCH = 9,      /* a fetch passes its level's part, or its value is 2^32 or more: the node */
+  GEMCOTTON_FETCH = 9,      /* a fetch from a chunked level passes its part, or its value is 2^32 or more: the node */
   GEMCOTTON_TIME = 10,      /* a time below 0 or above 4,294,967,295: the node */
   GEMCOTTON_TIMES_FALL = 11, /* the strip's times fall: the first position with a lower time than the one before */
   GEMCOTTON_IMAGE = 12,     /* bytes other than those that the strip's times pack to: 0 */
   GEMCOTTON_LENGTH = 13,    /* a length other than 7 + 5h and the lengths of the parts, h the height: 0 */
   GEMCOTTON_POSITION = 14,  /* a position at or past the pin count: 0 */
   GEMCOTTON_ANSWERS = 15,   /* answers and targets differ in length: 0 */
-  GEMCOTTON_TARGETS_FALL = 16 /* the targets fall: the first index with a lower target than the one before */
+  GEMCOTTON_TARGETS_FALL = 16, /* the targets fall: the first index with a lower target than the one before */
+  /* a level in a fixed code without exactly the fewest bytes for its width and number of values: the level, counted from 1 */
+  GEMCOTTON_LEVEL_LENGTH = 23
 };
 
 /* The sentence of a refusal: a format for printf and its like with at most one %zu, which is for what is carried. So this
@@ -75,6 +77,7 @@ static inline const char *gemcotton_sentence(size_t refusal) {
     case GEMCOTTON_POSITION: return "the position is not below the pin count";
     case GEMCOTTON_ANSWERS: return "there are not as many answers as targets";
     case GEMCOTTON_TARGETS_FALL: return "the targets fall at index %zu";
+    case GEMCOTTON_LEVEL_LENGTH: return "level %zu has not exactly the bytes that its values need";
     case GEMCOTTON_NONE: return "there is no refusal";
     default: return "there is a refusal of another number";
   }
@@ -103,9 +106,9 @@ size_t gemcotton_rank(size_t n, size_t node);
 struct gemcotton_answer gemcotton_pack(uint8_t *out, size_t out_length, const uint32_t *times, size_t times_length);
 
 /* All calls below are reading calls. They open the strip first, refused in this order: 5 (under 7 bytes), 6, 7, 1, 5 (under
- * 7 + 5h), 8 from level 1 on, 13. Where they then open nodes, the first node with 9 or 10 ends them. A call's comment names its
- * other refusals. What access, search, up-to, sweep and step give is said of an accepted strip. On any other they go down the
- * tree in the same way; they do not look for 11 or 12. */
+ * 7 + 5h), level by level from 1 on 8 and then 23, and after them 13. Where they then open nodes, the first node with 9 or 10
+ * ends them. A call's comment names its other refusals. What access, search, up-to, sweep and step give is said of an accepted
+ * strip. On any other they go down the tree in the same way; they do not look for 11 or 12. */
 
 /* Gives the time at position i and the nodes opened, from the root to the node of that position. Refused after opening with 14,
  * where i is at or past the pin count. */

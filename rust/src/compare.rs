@@ -14,7 +14,7 @@ use crate::strips::pins;
 const LEAST: usize = 100;
 
 /// The numbers that opening refuses with, which every reading call does first.
-const OPENING: [usize; 6] = [5, 6, 7, 1, 8, 13];
+const OPENING: [usize; 7] = [5, 6, 7, 1, 8, 23, 13];
 
 /// How a call ended: with the refusal of this number, and whether it had written before; or, at 0, with an answer, and
 /// whether that was of a strip without times at all positions or with times that fall.

@@ -14,10 +14,12 @@ pub fn least_width(values: &[u32]) -> u8 {
     (32 - greatest.leading_zeros()) as u8
 }
 
-/// Names a random one of the codes that hold the values.
+/// Names a random one of the codes that hold the values; in half of the strips always a chunked one.
 pub fn any_code(random: &mut Random) -> impl FnMut(usize, &[u32]) -> u8 + '_ {
-    |_, values| {
-        let codes: Vec<u8> = (least_width(values)..=32).chain(65..=72).collect();
+    let chunked = random.below(2) == 0;
+    move |_, values| {
+        let least = if chunked { 33 } else { least_width(values) };
+        let codes: Vec<u8> = (least..=32).chain(65..=72).collect();
         codes[random.below(codes.len())]
     }
 }

@@ -1,4 +1,5 @@
-//! The scope's level codes, bit by bit. Slow on purpose: each function follows the scope's sentences and nothing else.
+//! The scope's level codes, bit by bit. Slow on purpose: each function follows the sentences of the scope and of the
+//! change requests, and nothing else.
 
 pub mod strip;
 pub mod tree;
@@ -109,6 +110,11 @@ fn bits(part: &[u8], from: u128, length: u128) -> Option<Vec<bool>> {
     Some((from..from + length).map(bit).collect())
 }
 
+/// "The fewest bytes for its width and number of values" (Ticket 12): as many as hold their bits.
+pub fn fewest_bytes(width: u32, count: usize) -> usize {
+    (width as usize * count).div_ceil(8)
+}
+
 /// Value `index` of the `count` that the part holds in this code, or none where the fetch is refused. The index is
 /// below the count.
 pub fn fetch(part: &[u8], code: u8, count: usize, index: usize) -> Option<u32> {
@@ -116,7 +122,9 @@ pub fn fetch(part: &[u8], code: u8, count: usize, index: usize) -> Option<u32> {
     match kind(code) {
         Kind::Fixed(w) => {
             let from = index as u128 * u128::from(w);
-            Some(number(&bits(part, from, u128::from(w))?) as u32)
+            // "Refusal 9 then remains for chunked levels only" (Ticket 12).
+            let bits = bits(part, from, u128::from(w)).expect("opening tests a fixed level's bytes");
+            Some(number(&bits) as u32)
         }
         Kind::Chunked(b) => fetch_chunked(part, u128::from(b), count as u128, index as u128),
         Kind::Refused => None,

@@ -38,8 +38,8 @@ pub fn example(number: usize) -> Vec<u8> {
         6 => changed_b(2, 0x4F),
         7 => changed_b(4, 2),
         8 => changed_b(7, 33),
-        // "n = 1, code 1, length 0: 1".
-        9 => changed_b(7, 1),
+        // n = 1, code 65, length 0: 1.
+        9 => changed_b(7, 65),
         // "root 0, node 2 stores 1: 2".
         10 => strip_of_values(&[0, 1], chosen),
         // "A, node 5 storing 151: 3".
@@ -47,6 +47,8 @@ pub fn example(number: usize) -> Vec<u8> {
         // "n = 1, code 65, length 1, byte 00".
         12 => image(1, &[(65, vec![0])]),
         13 => [&B[..], &[0]].concat(),
+        // "n = 1, code 1, length 0: 1", which was the example of 9.
+        23 => changed_b(7, 1),
         _ => panic!("no strip is an example of {number}"),
     }
 }
@@ -63,11 +65,11 @@ pub fn strip_of_values(values: &[u32], code_for: impl FnMut(usize, &[u32]) -> u8
     image(values.len(), &parts_of_values(values, code_for))
 }
 
-/// The list's strip in any codes, with bytes after each level's values, which no fetch reads: so many at least, and at
-/// most three.
+/// The list's strip in any codes, with bytes after each chunked level's values, which no fetch reads: so many at least,
+/// and at most three.
 pub fn wasteful(times: &[u32], least: usize, random: &mut Random) -> Vec<u8> {
     let mut levels = parts_of_values(&stored(times), any_code(random));
-    for (_, part) in &mut levels {
+    for (_, part) in levels.iter_mut().filter(|(code, _)| *code > 32) {
         let more = least + random.below(4 - least);
         part.extend(random.bytes(more));
     }
@@ -86,6 +88,13 @@ pub fn many_levels(n: usize, random: &mut Random) -> Vec<Vec<Level>> {
         many.push(parts_of_values(&values, any_code(random)));
     }
     many
+}
+
+/// As many, in chunked codes.
+pub fn chunked_levels(n: usize, random: &mut Random) -> Vec<Vec<Level>> {
+    let lists = [lists(n, random), lists(n, random)].concat();
+    let levels = |times: &Vec<u32>| parts_of_values(&stored(times), |_, _| 65 + random.below(8) as u8);
+    lists.iter().map(levels).collect()
 }
 
 /// Strips of a few dozen bytes in codes of all sorts.

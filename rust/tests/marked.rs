@@ -79,7 +79,7 @@ fn refusals() {
     assert_eq!(lent("pack", &[], &[7, 6], 99).0, refused(3, 1));
     assert_eq!(lent("pack", &[], &[0], 11).0, refused(4, 12));
     assert_eq!(lent("unpack", &A, &[], 4).0, refused(4, 5));
-    for (number, carried) in [(1, 0), (5, 0), (6, 0), (7, 0), (8, 1), (13, 0)] {
+    for (number, carried) in [(1, 0), (5, 0), (6, 0), (7, 0), (8, 1), (13, 0), (23, 1)] {
         assert_eq!(asked("access", &example(number), 0), refused(number, carried));
     }
     for (number, carried) in [(9, 1), (10, 2), (11, 3), (12, 0)] {

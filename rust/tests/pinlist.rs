@@ -146,6 +146,8 @@ fn refused_strips() {
     check_kind("examples", 1);
     check_kind("refused_at_every_level", 5);
     check_kind("refused_codes", 300);
+    check_kind("wrong_lengths", 500);
+    check_kind("wrong_lengths_at_every_level", 50);
     check_kind("sets_of_faults", 7);
     check_kind("cuts_and_bytes_added", 500);
 }
@@ -190,8 +192,9 @@ fn as_many_bytes_as_it_takes() {
     check_line(&vec![0; MOST], "refused 6 0");
     check_line(&random.bytes(MOST), "refused 6 0");
     check_line(&[&A[..], &vec![0; MOST - A.len()]].concat(), "refused 13 0");
-    // A part with bytes after its value, and one that is a chain of chunks without an end.
-    check_line(&image(1, &[(32, vec![0; MOST - 12])]), "refused 12 0");
+    // A part with bytes after its value, in a fixed code and in chunks, and one that is a chain of chunks without an end.
+    check_line(&image(1, &[(32, vec![0; MOST - 12])]), "refused 23 1");
+    check_line(&image(1, &[(72, vec![0; MOST - 12])]), "refused 12 0");
     check_line(&image(1, &[(72, vec![0xFF; MOST - 12])]), "refused 9 1");
 }
 

@@ -14,40 +14,34 @@ use Rattle.codes.specs.declared.kinds.Kind.{Kind}
 use Rattle.codes.specs.declared.kinds.Kind.the-variants.{Fixed, Chunked, Refused}
 use Rattle.codes.specs.Bits.{number, sum, fixed, bitsOf}
 use Rattle.codes.specs.Codes.{kindOf, continuation, rest, layers}
-use Rattle.codes.specs.Fetch.{Fetched, value, outside, fixedAt, extended, fetchLayers, chunkedAt, kindFetched, fetched, shortAt}
+use Rattle.codes.specs.Fetch.{Fetched, value, outside, fixedAt, extended, fetchLayers, chunkedAt, kindFetched, fetched, Inside, shortAt}
 use Rattle.codes.specs.Promises.{ShortFetches}
 use Rattle.codes.proofs.Bits.{length-fixed, fixed-at, number-bits}
 use Rattle.codes.proofs.Layers.{sum-continuations, rest-at, div-lt}
 
 -- ---- fixed codes
 
-pub fixed-outside : (w j : ℕ) (bs : List ℕ) → length bs < (j + 1) * w → fixedAt w j bs ≡ outside
-unfolding fixedAt
-fixed-outside w j bs h = rw (lt-ltb (length bs) ((j + 1) * w) h)
-
 pub fixed-inside : (w j : ℕ) (bs : List ℕ) → (j + 1) * w ≤ length bs → fixedAt w j bs ≡ value (number (take w (drop (j * w) bs)))
 unfolding fixedAt
 fixed-inside w j bs h = rw (le-ltb (length bs) ((j + 1) * w) h)
 
-short-kind : (k : Kind) (count j : ℕ) (bs : List ℕ) → shortAt k j bs < 2 ^ 32 → kindFetched k count j bs ≡ value (shortAt k j bs)
+short-kind : (k : Kind) (count j : ℕ) (bytes : List ℕ) → Inside k j (length bytes) → shortAt k j (bitsOf bytes) < 2 ^ 32
+    → kindFetched k count j (bitsOf bytes) ≡ value (shortAt k j (bitsOf bytes))
 unfolding shortAt
-short-kind (Fixed w) count j bs h = elim (decLt 25 w) [
+short-kind (Fixed w) count j bytes i h = elim (decLt 25 w) [
   | yes a ↦ absurd (omega (arith, rw (lt-ltb 25 w a) at h))
-  | no a ↦ elim (decLt (length bs) 32) [
-    | yes b ↦ absurd (omega (arith, rw (le-ltb 25 w (omega arith), lt-ltb (length bs) 32 b) at h))
-    | no b ↦ elim (decLt (length bs) ((j + 1) * w)) [
-      | yes c ↦ absurd (omega (arith, rw (le-ltb 25 w (omega arith), le-ltb (length bs) 32 (omega arith), lt-ltb (length bs) ((j + 1) * w) c) at h))
-      | no c ↦ rw (le-ltb 25 w (omega arith), le-ltb (length bs) 32 (omega arith), le-ltb (length bs) ((j + 1) * w) (omega arith)) (fixed-inside w j bs (omega arith))
-    ]
+  | no a ↦ elim (decLt (length (bitsOf bytes)) 32) [
+    | yes b ↦ absurd (omega (arith, rw (le-ltb 25 w (omega arith), lt-ltb (length (bitsOf bytes)) 32 b) at h))
+    | no b ↦ rw (le-ltb 25 w (omega arith), le-ltb (length (bitsOf bytes)) 32 (omega arith)) (fixed-inside w j (bitsOf bytes) (rw (length-fixed 8 bytes) i))
   ]
 ]
-short-kind (Chunked b) count j bs h = absurd (omega arith)
-short-kind Refused count j bs h = absurd (omega arith)
+short-kind (Chunked b) count j bytes i h = absurd (omega arith)
+short-kind Refused count j bytes i h = absurd (omega arith)
 
 -- a short fetch that says something
 pub short-fetched : ShortFetches
 unfolding fetched
-short-fetched code count j bytes h = short-kind (kindOf code) count j (bitsOf bytes) h
+short-fetched code count j bytes i h = short-kind (kindOf code) count j bytes i h
 
 -- ---- chunked codes, without the number of layers
 

@@ -9,6 +9,7 @@ pub mod ChunkCounts
 pub mod CodeByte
 pub mod DecodedParts
 pub mod Decodes
+pub mod ExactParts
 pub mod Fetches
 pub mod Groups
 pub mod Layers

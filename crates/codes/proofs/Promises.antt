@@ -2,7 +2,7 @@
 use native.Mathlib.Omega.{arith}
 use Rattle.codes.specs.declared.kinds.Kind.the-variants.{Chunked}
 use Rattle.codes.specs.Codes.{kindBits, levelBits}
-use Rattle.codes.specs.Promises.{RoundTrip, Lengths, BestChoice, CodeKnown, LeastWidth, DecodeFetches, DecodeBack, DecodedPart, ChosenParts, ShortFetches, ZeroMarks, ListLaws}
+use Rattle.codes.specs.Promises.{RoundTrip, Lengths, BestChoice, CodeKnown, LeastWidth, DecodeFetches, DecodeBack, DecodedPart, ChosenParts, ExactParts, ShortFetches, ZeroMarks, ListLaws}
 use Rattle.codes.proofs.Best.{chosen-holds, chosen-size, chosen-first, chosen-at-most}
 use Rattle.codes.proofs.Bits.{length-fixed, length-padded}
 use Rattle.codes.proofs.Buffers.{buffer-laws}
@@ -11,6 +11,7 @@ use Rattle.codes.proofs.ChunkCounts.{chunked-length}
 use Rattle.codes.proofs.CodeByte.{kind-told}
 use Rattle.codes.proofs.DecodedParts.{part-spelled}
 use Rattle.codes.proofs.Decodes.{decoded-fetched}
+use Rattle.codes.proofs.ExactParts.{exact-told}
 use Rattle.codes.proofs.Fetches.{short-fetched}
 use Rattle.codes.proofs.Marks.{marks-zero}
 use Rattle.codes.proofs.Parts.{part-back, part-decoded}
@@ -53,6 +54,9 @@ decoded-part = part-spelled
 
 pub chosen-parts : ChosenParts
 chosen-parts = chosen-told
+
+pub exact-parts : ExactParts
+exact-parts = exact-told
 
 pub short-fetches : ShortFetches
 short-fetches = short-fetched

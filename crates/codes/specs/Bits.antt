@@ -36,7 +36,7 @@ numbers w (suc n) bs = number (take w bs) ∷ numbers w n (drop w bs)
 abbrev pub bytesOf : ℕ → List ℕ → List ℕ
 bytesOf k bs = numbers 8 k bs
 
--- whole bytes that hold n bits
+-- the fewest whole bytes that hold n bits; `ExactParts.fewest` in Promises says so
 abbrev pub bytesFor : ℕ → ℕ
 bytesFor n = (n + 7) / 8
 

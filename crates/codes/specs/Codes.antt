@@ -1,12 +1,12 @@
 -- Level codes: what a code byte says, and the part of a level in it.
-use mathlib.Core.Bool.{cond}
+use mathlib.Core.Bool.{Bool, true, false, cond}
 use mathlib.Core.List.{List, [], _∷_, _++_, map}
-use Prim.Native.Nat.{ℕ, zero, suc, _-_, _/_, _^_, _<_}
+use Prim.Native.Nat.{ℕ, zero, suc, _-_, _*_, _/_, _^_, _<_}
 use lib.Dec.{eqb, ltb}
 use lib.ListN.{drop, getD, replicate}
 use Rattle.codes.specs.declared.kinds.Kind.{Kind}
 use Rattle.codes.specs.declared.kinds.Kind.the-variants.{Fixed, Chunked, Refused}
-use Rattle.codes.specs.Bits.{fixed, padded}
+use Rattle.codes.specs.Bits.{fixed, bytesFor, padded}
 
 -- codes 0 to 32 are fixed widths in bits, codes 65 to 72 chunked with b = code - 64; all others are refused (8)
 unfoldable pub kindOf : ℕ → Kind
@@ -44,6 +44,13 @@ levelBits code vs = kindBits (kindOf code) vs
 -- the part of a level: padded with zero bits to whole bytes
 abbrev pub part : ℕ → List ℕ → List ℕ
 part code vs = padded (levelBits code vs)
+
+-- Whether a level of count values may have so many bytes: a fixed one exactly the fewest for its width and number of values, a chunked one
+-- any number, since a fetch finds out, and one with a refused code none.
+abbrev pub isExact : Kind → ℕ → ℕ → Bool
+isExact (Fixed w) count bytes = eqb bytes (bytesFor (count * w))
+isExact (Chunked b) count bytes = true
+isExact Refused count bytes = false
 
 -- every value has at most w bits
 abbrev pub Within : ℕ → List ℕ → Type 0

@@ -2,7 +2,7 @@
 use mathlib.Core.Path.{_≡_}
 use mathlib.Core.Bool.{cond}
 use mathlib.Core.List.{List}
-use Prim.Native.Nat.{ℕ, zero, suc, _+_, _*_, _^_}
+use Prim.Native.Nat.{ℕ, zero, suc, _+_, _*_, _^_, _≤_}
 use lib.Dec.{eqb, ltb}
 use lib.ListN.{length, take, drop, getD}
 use Rattle.codes.specs.declared.kinds.Kind.{Kind}
@@ -59,12 +59,18 @@ kindFetched Refused count j bs = outside
 unfoldable pub fetched : ℕ → ℕ → ℕ → List ℕ → Fetched
 fetched code count j bytes = kindFetched (kindOf code) count j (bitsOf bytes)
 
+-- Value j of a fixed level lies in a part of so many bytes. A fetch requires that, and does not test it; where the part is exactly as long as
+-- its values need, `ExactParts.inside` in Promises has it.
+abbrev pub Inside : Kind → ℕ → ℕ → Type 0
+Inside (Fixed w) j bytes = (j + 1) * w ≤ bytes * 8
+Inside (Chunked b) j bytes = Unit {0}
+Inside Refused j bytes = Unit {0}
+
 -- ---- a short fetch
 
--- A fixed value of at most 25 bits that lies in a part of 4 bytes or more; of any other nothing is said, by 2 ^ 32, which is no value.
+-- A fixed value of at most 25 bits in a part of 4 bytes or more; of any other nothing is said, by 2 ^ 32, which is no value.
 unfoldable pub shortAt : Kind → ℕ → List ℕ → ℕ
-shortAt (Fixed w) j bs =
-    cond (ltb 25 w) (2 ^ 32) (cond (ltb (length bs) 32) (2 ^ 32) (cond (ltb (length bs) ((j + 1) * w)) (2 ^ 32) (number (take w (drop (j * w) bs)))))
+shortAt (Fixed w) j bs = cond (ltb 25 w) (2 ^ 32) (cond (ltb (length bs) 32) (2 ^ 32) (number (take w (drop (j * w) bs))))
 shortAt (Chunked b) j bs = 2 ^ 32
 shortAt Refused j bs = 2 ^ 32
 

@@ -1,5 +1,6 @@
 -- What is shown of the level codes besides each function's contract. proofs/Promises proves each, as
--- `round-trip`, `lengths`, `best-choice`, `code-known`, `least-width`, `decode-fetches`, `decode-back`, `decoded-part`, `chosen-parts`, `short-fetches`, `zero-marks` and `list-laws`.
+-- `round-trip`, `lengths`, `best-choice`, `code-known`, `least-width`, `decode-fetches`, `decode-back`, `decoded-part`, `chosen-parts`, `exact-parts`,
+-- `short-fetches`, `zero-marks` and `list-laws`.
 use mathlib.Core.Path.{_≡_}
 use mathlib.Core.Bool.{true}
 use mathlib.Core.List.{List, [], _∷_, _++_, map}
@@ -9,9 +10,9 @@ use Rattle.codes.specs.declared.kinds.Kind.{Kind}
 use Rattle.codes.specs.declared.kinds.Kind.the-variants.{Fixed, Chunked, Refused}
 use Rattle.codes.specs.Lists.{same, replaced, filledTo}
 use Rattle.codes.specs.Bits.{sum, bitsOf, bytesFor}
-use Rattle.codes.specs.Codes.{kindOf, part, Within, Holds}
+use Rattle.codes.specs.Codes.{kindOf, part, isExact, Within, Holds}
 use Rattle.codes.specs.Choice.{widthIn, chunks, size, chosen, isChosen}
-use Rattle.codes.specs.Fetch.{value, fetched, shortFetched}
+use Rattle.codes.specs.Fetch.{value, outside, fetched, Inside, shortFetched}
 use Rattle.codes.specs.Marks.{Marks}
 use Rattle.codes.specs.Decode.{all, decoded}
 
@@ -72,15 +73,25 @@ pub record ChosenParts : Type 0 where
   pub told : (code : ℕ) (vs bytes : List ℕ) → isChosen code vs bytes ≡ true → (chosen vs .code ≡ code) × (part code vs ≡ bytes)
   pub back : (vs : List ℕ) → isChosen (chosen vs .code) vs (part (chosen vs .code) vs) ≡ true
 
--- 10. A short fetch that says something says what any fetch finds, however many values there are.
-abbrev pub ShortFetches : Type 0
-ShortFetches = (code count j : ℕ) (bytes : List ℕ) → shortFetched code j bytes < 2 ^ 32 → fetched code count j bytes ≡ value (shortFetched code j bytes)
+-- 10. Bytes that hold some bits are no fewer than `bytesFor` says. The part of values in a code that holds them may have its length. Where a
+-- fixed level has exactly the bytes that it needs, each of its values lies in its part, and no fetch of it is refused.
+pub record ExactParts : Type 0 where
+  pub fewest : (bits : ℕ) → (bits ≤ bytesFor bits * 8) × ((bytes : ℕ) → bits ≤ bytes * 8 → bytesFor bits ≤ bytes)
+  pub written : (code : ℕ) (vs : List ℕ) → Holds (kindOf code) vs → isExact (kindOf code) (length vs) (length (part code vs)) ≡ true
+  pub inside : (k : Kind) (count bytes j : ℕ) → isExact k count bytes ≡ true → j < count → Inside k j bytes
+  pub only-chunked : (code count j : ℕ) (bytes : List ℕ) → isExact (kindOf code) count (length bytes) ≡ true → j < count → fetched code count j bytes ≡ outside
+      → (b : ℕ) × (kindOf code ≡ Chunked b)
 
--- 11. Entries that are all 0 are marks of any part.
+-- 11. A short fetch that says something says what any fetch finds, however many values there are.
+abbrev pub ShortFetches : Type 0
+ShortFetches = (code count j : ℕ) (bytes : List ℕ) → Inside (kindOf code) j (length bytes) → shortFetched code j bytes < 2 ^ 32
+    → fetched code count j bytes ≡ value (shortFetched code j bytes)
+
+-- 12. Entries that are all 0 are marks of any part.
 abbrev pub ZeroMarks : Type 0
 ZeroMarks = (bytes ms : List ℕ) → ((j : ℕ) → getD ms j 0 ≡ 0) → Marks bytes ms
 
--- 12. The laws of lists and buffers that the layers above cite.
+-- 13. The laws of lists and buffers that the layers above cite.
 pub record ListLaws : Type 0 where
   -- the test tells whether two lists are the same
   pub same-lists : (xs ys : List ℕ) → same xs ys ≡ true → xs ≡ ys

@@ -10,10 +10,12 @@ ghost use mathlib.Core.Path.{_≡_};
 ghost use Prim.Native.Nat.{_+_, _*_, _^_, _<_, _≤_};
 ghost use lib.ListN.{length, take, drop};
 ghost use Rattle.codes.specs.Bits.{number, bitsOf};
-ghost use Rattle.codes.specs.Fetch.{found, fixedAt, chunkedAt, within32, fetched, shortFetched, NextLayer};
+ghost use Rattle.codes.specs.declared.kinds.Kind.the-variants.{Fixed};
+ghost use Rattle.codes.specs.Codes.{kindOf};
+ghost use Rattle.codes.specs.Fetch.{value, found, fixedAt, chunkedAt, within32, fetched, Inside, shortFetched, NextLayer};
 ghost use Rattle.codes.specs.Marks.{Marks};
 
-// What a fetch finds: a value, or that it passes its part or the value is 2^32 or more.
+// What a fetch finds: a value, or that a chunked one passes its part or is 2^32 or more.
 pub enum Found {
     Value(u32),
     Outside,
@@ -30,21 +32,14 @@ struct Layer {
 }
 
 // Value `index` of a fixed code of width `w`.
-fn fetch_fixed(part: &[u8], w: usize, index: usize) -> Found
-    requires { ⌜ (w ≤ 32) × (length (now part) < 2 ^ 32) ⌝ }
-    ensures { λ r. ⌜ found r ≡ fixedAt w index (bitsOf (now (part .entry))) ⌝ }
+fn fetch_fixed(part: &[u8], w: usize, index: usize) -> u32
+    requires { ⌜ (w ≤ 32) × (length (now part) < 2 ^ 32) × Inside (Fixed w) index (length (now part)) ⌝ }
+    ensures { λ r. ⌜ value r ≡ fixedAt w index (bitsOf (now (part .entry))) ⌝ }
 {
     if w == 0 {
-        return Found::Value(0);
+        return 0;
     }
-    let end = part.len() * 8;
-    if end <= index {
-        return Found::Outside;
-    }
-    if end < (index + 1) * w {
-        return Found::Outside;
-    }
-    Found::Value(read(part, index * w, w) as u32)
+    read(part, index * w, w) as u32
 }
 
 // The `b` bits from bit `at` on, `shift` bits up.
@@ -115,25 +110,26 @@ fn fetch_chunked(marks: &mut [usize], part: &[u8], b: usize, count: usize, index
     Found::Outside
 }
 
-// Value `index` of a level of `count` values, in code `code`, from the level's part alone. Any number of marks serves, also none; at first they
-// are all 0. Fetches of rising indices with the same marks count each continuation bit at most twice: in its layer's total, and before a value.
+// Value `index` of a level of `count` values, in code `code`, from the level's part alone, in which a fixed value lies. Any number of marks
+// serves, also none; at first they are all 0. Fetches of rising indices with the same marks count each continuation bit at most twice: in
+// its layer's total, and before a value.
 pub fn fetch(marks: &mut [usize], part: &[u8], code: u8, count: usize, index: usize) -> Found
-    requires { ⌜ (index < count) × (length (now part) < 2 ^ 32) × Marks (now part) (now marks) ⌝ }
+    requires { ⌜ (index < count) × (length (now part) < 2 ^ 32) × Marks (now part) (now marks) × Inside (kindOf code) index (length (now part)) ⌝ }
     ensures { λ r. ⌜ found r ≡ fetched code count index (now (part .entry)) ⌝ }
     ensures { λ r. ⌜ Marks (now (part .entry)) (now (marks .exit)) ⌝ }
 {
     let kind = kind_of(code);
     match kind {
-        Kind::Fixed(w) => fetch_fixed(part, w, index),
+        Kind::Fixed(w) => Found::Value(fetch_fixed(part, w, index)),
         Kind::Chunked(b) => fetch_chunked(marks, part, b, count, index),
         Kind::Refused => Found::Outside,
     }
 }
 
-// Value `index` of a level in a fixed code of at most 25 bits, where it lies in the part and the part has 4 bytes or more; else 2^32,
-// which says nothing. It is short enough to stand in a walk's loop; `fetch` has every value. The number of values is no matter.
+// Value `index` of a level in a fixed code of at most 25 bits, where the part has 4 bytes or more; else 2^32, which says nothing. It is short
+// enough to stand in a walk's loop; `fetch` has every value. The number of values is no matter.
 pub fn fetch_short(part: &[u8], code: u8, index: usize) -> u64
-    requires { ⌜ (index < 2 ^ 32) × (length (now part) < 2 ^ 32) ⌝ }
+    requires { ⌜ (index < 2 ^ 32) × (length (now part) < 2 ^ 32) × Inside (kindOf code) index (length (now part)) ⌝ }
     ensures { λ r. ⌜ r ≡ shortFetched code index (now (part .entry)) ⌝ }
 {
     let kind = kind_of(code);
@@ -143,9 +139,6 @@ pub fn fetch_short(part: &[u8], code: u8, index: usize) -> u64
                 return LIMIT;
             }
             if part.len() < 4 {
-                return LIMIT;
-            }
-            if part.len() * 8 < (index + 1) * w {
                 return LIMIT;
             }
             read_short(part, index * w, w) as u64

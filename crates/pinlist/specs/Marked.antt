@@ -15,7 +15,7 @@ use Rattle.tree.specs.Walks.{walkIn, walk, met, toward, lastOf, accessAnswer}
 use Rattle.tree.specs.Listing.{timesFrom}
 use Rattle.strip.specs.Layout.{endAfter, filled, laidOut}
 use Rattle.strip.specs.Image.{codeFor, partFor, joined, stripOf}
-use Rattle.strip.specs.Opening.{codeTests, opening}
+use Rattle.strip.specs.Opening.{entriesTests, opening}
 use Rattle.strip.specs.Calls.{positionsTests, listIn, checkOf, plainList}
 use Rattle.strip.specs.Marked.{a, b}
 use Rattle.pinlist.specs.Texts.{ascii, placesIn, decimal, numeral, header, line, linesFrom, refusalLine, printed}
@@ -28,6 +28,6 @@ pub record Marked : Type 0 where
 pub marked : Marked
 unfolding bits number sum fixed numbers padded kindOf rest layers kindBits widthIn widest bestChunked chosen fixedAt fetchLayers chunkedAt fetched height
     rootPlace childOf stretchIn stretch rank ordered timeOf timeAbove stored storedFrom fetchedAt nodeTimeIn nodeTime walkIn walk met toward lastOf
-    accessAnswer test verdict endAfter filled laidOut codeFor partFor joined stripOf codeTests opening timesFrom positionsTests listIn checkOf plainList placesIn
+    accessAnswer test verdict endAfter filled laidOut codeFor partFor joined stripOf entriesTests opening timesFrom positionsTests listIn checkOf plainList placesIn
     decimal numeral header line linesFrom refusalLine printed
 marked = record { listed = refl; refused = refl }

@@ -1,46 +1,38 @@
 -- The image of values in node order, read again: opening it finds the plan by which it was written. Of a list's image, the levels hold
 -- what the list's tree stores.
 use mathlib.Core.Path.{_≡_, refl, sym, ap, _∙_}
-use mathlib.Core.Bool.{false}
 use mathlib.Core.List.{List, [], _∷_, _++_, append-assoc}
 use Prim.Native.Nat.{ℕ, zero, suc, _+_, _-_, _*_, _/_, _%_, _^_, _≤_, _<_}
 use native.Mathlib.Nat.{add-zero, add-sub-cancel-left}
 use native.Mathlib.Omega.{arith}
 use lib.ListN.{length, drop, getD, length-append}
 use lib.Seq.{getD-drop, drop-at, take-at}
-use Rattle.codes.specs.declared.kinds.Kind.{Kind}
-use Rattle.codes.specs.declared.kinds.Kind.the-variants.{Fixed, Chunked, Refused}
-use Rattle.codes.specs.Codes.{kindOf, Within, Holds}
+use Rattle.codes.specs.Codes.{kindOf, isExact, Within}
+use Rattle.codes.proofs.Promises.{exact-parts}
 use Rattle.tree.specs.Shape.{height}
 use Rattle.tree.specs.Stored.{storedValues}
-use Rattle.tree.specs.Levels.{codeOf, partOf, levelValues, Stores}
+use Rattle.tree.specs.Levels.{countOf, codeOf, partOf, levelValues, Stores}
 use Rattle.tree.proofs.Promises.{stored-levels}
 use Rattle.tree.specs.Outcomes.{Outcome, Test, gives, verdict, after}
 use Rattle.strip.specs.Layout.{header, pinsOf, codeAt, lengthAt, partsStart, endAfter}
 use Rattle.strip.specs.Image.{Packable, codeFor, partFor, lengthFor, planned, entryFor, joined, stripOf, image}
-use Rattle.strip.specs.Opening.{headerTests, isRefused, codeTests, lengthByEntries, lengthTest, levelTests, levelsIn, opening}
+use Rattle.strip.specs.Opening.{headerTests, entriesTests, lengthByEntries, lengthTest, levelTests, levelsIn, opening}
 use Rattle.strip.proofs.Pieces.{joined-split, length-joined}
 use Rattle.strip.proofs.Layouts.{end-same, laid-same}
 use Rattle.strip.proofs.Plans.{plan-pins, plan-at, length-strip, parts-end, level-short, level-holds, length-chosen, size-small}
-use Rattle.strip.proofs.Openings.{header-passes, codes-step, length-agrees, opening-steps}
+use Rattle.strip.proofs.Openings.{header-passes, entry-passes, entries-step, length-agrees, opening-steps}
+use Rattle.strip.proofs.OpenStrips.{Exact}
 
 -- a number of four bytes, read back
 four-back : (x : ℕ) → x < 2 ^ 32 → ((x / 2 ^ 16 / 2 ^ 8 % 2 ^ 8) * 2 ^ 8 + x / 2 ^ 16 % 2 ^ 8) * 2 ^ 16 + ((x / 2 ^ 8 % 2 ^ 8) * 2 ^ 8 + x % 2 ^ 8) ≡ x
 four-back x h = omega arith
 
--- a code that holds values is not refused
-holds-known : (k : Kind) (vs : List ℕ) → Holds k vs → isRefused k ≡ false
-holds-known (Fixed w) vs h = refl
-holds-known (Chunked b) vs h = refl
-holds-known Refused vs h = absurd h
-
--- where no code is refused
-codes-all : {A : Type 0} (s : List ℕ) (ts : List Test) (a : A) (k d : ℕ) → ((i : ℕ) → i < d + k → isRefused (kindOf (codeAt s i)) ≡ false)
-    → verdict (codeTests s k d ++ ts) a ≡ verdict ts a
-unfolding codeTests
-codes-all s ts a zero d h = refl
-codes-all s ts a (suc k) d h =
-    codes-step s ts a k d (h d (omega arith)) ∙ codes-all s ts a k (suc d) (λ i l. h i (omega arith))
+-- where every level is as long as its values need
+entries-all : {A : Type 0} (s : List ℕ) (ts : List Test) (a : A) (k d : ℕ) → ((i : ℕ) → i < d + k → Exact s i) → verdict (entriesTests s k d ++ ts) a ≡ verdict ts a
+unfolding entriesTests
+entries-all s ts a zero d h = refl
+entries-all s ts a (suc k) d h =
+    entries-step s ts a k d ∙ rw (entry-passes (suc d) (countOf (pinsOf s) d) (codeAt s d) (lengthAt s d) (h d (omega arith))) (entries-all s ts a k (suc d) (λ i l. h i (omega arith)))
 
 module _ (values : List ℕ) (some : 1 ≤ length values) (few : length values < 2 ^ 16) (w : Within 32 values) where
   pins-back : pinsOf (stripOf values) ≡ length values
@@ -95,16 +87,19 @@ module _ (values : List ℕ) (some : 1 ≤ length values) (few : length values <
   header-back =
       header-passes (stripOf values) (omega (arith, length-strip values)) refl refl (λ e. omega (arith, pins-back)) (rw pins-back (omega (arith, length-strip values)))
 
-  known : (i : ℕ) → i < height (pinsOf (stripOf values)) → isRefused (kindOf (codeAt (stripOf values) i)) ≡ false
-  known i l =
+  exact-back : (d : ℕ) → d < height (pinsOf (stripOf values)) → Exact (stripOf values) d
+  unfolding partFor
+  exact-back d l =
       let k = rw pins-back at l in
-      rw (code-back i k) (holds-known (kindOf (codeFor values i)) (levelValues values i) (level-holds values w i))
+      rw (pins-back, code-back d k, length-back d k)
+      (ap (λ (count : ℕ). isExact (kindOf (codeFor values d)) count (lengthFor values d)) (sym (stored-levels .level-count values d))
+      ∙ exact-parts .written (codeFor values d) (levelValues values d) (level-holds values w d))
 
   pub strip-opens : opening (stripOf values) ≡ gives (planned values)
   strip-opens =
       let s = stripOf values in
       opening-steps s ∙ ap (λ (o : Outcome ℕ). after o (λ _. verdict (levelTests s) (levelsIn s))) header-back
-      ∙ codes-all s (lengthTest s ∷ []) (levelsIn s) (height (pinsOf s)) 0 (λ i l. known i (omega arith))
+      ∙ entries-all s (lengthTest s ∷ []) (levelsIn s) (height (pinsOf s)) 0 (λ i l. exact-back i (omega arith))
       ∙ length-agrees s (levelsIn s) told-back ∙ ap gives levels-back
 
   -- the part of a level, where the plan says

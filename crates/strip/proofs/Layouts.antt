@@ -1,16 +1,18 @@
 -- Where levels lie that follow each other: their entries, and that they fit the bytes that they fill.
 use mathlib.Core.Path.{_≡_, refl, _∙_}
+use mathlib.Core.Bool.{true}
 use mathlib.Core.List.{List}
 use Prim.Native.Nat.{ℕ, zero, suc, _+_, _^_, _≤_, _<_}
-use native.Mathlib.Nat.{le-refl}
+use native.Mathlib.Nat.{le-refl, add-sub-cancel-left}
 use native.Mathlib.Decide.{decLt}
 use native.Mathlib.Numerals.{add-one}
 use native.Mathlib.Omega.{arith}
-use lib.ListN.{length, getD, set, length-set, length-replicate}
-use lib.Seq.{getD-set-same, getD-set-other}
+use lib.ListN.{length, drop, getD, set, length-set, length-replicate, length-drop}
+use lib.Seq.{getD-set-same, getD-set-other, length-take-le}
+use Rattle.codes.specs.Codes.{kindOf, isExact}
 use Rattle.tree.specs.declared.nodes.Levels.{Levels}
 use Rattle.tree.specs.Shape.{height}
-use Rattle.tree.specs.Levels.{Fits}
+use Rattle.tree.specs.Levels.{countOf, partOf, Fits}
 use Rattle.tree.proofs.Promises.{height-least}
 use Rattle.strip.specs.Layout.{maxHeight, partsStart, noLevels, endAfter, filled, entered, laidOut}
 
@@ -105,11 +107,22 @@ module _ (n : ℕ) (code len : ℕ → ℕ) where
       ends-at = rw (add-one d) (laid-end (suc d) (omega arith) ∙ end-next (partsStart n) len d);
     }
 
-    -- levels of lengths below 2 ^ 32 that end with the bytes fit them
-    pub laid-fits : (s : List ℕ) → ((d : ℕ) → d < height n → len d < 2 ^ 32) → endAfter (partsStart n) len (height n) ≡ length s → Fits (laidOut n code len) s
-    laid-fits s short e = record {
+    -- levels of lengths below 2 ^ 32, of fixed codes as long as their values need, that end with the bytes fit them
+    pub laid-fits : (s : List ℕ) → ((d : ℕ) → d < height n → (len d < 2 ^ 32) × (isExact (kindOf (code d)) (countOf n d) (len d) ≡ true))
+        → endAfter (partsStart n) len (height n) ≡ length s → Fits (laidOut n code len) s
+    laid-fits s each e = record {
       height-fits = rw laid-pins (height-fits n few);
       in-order = λ d h. let k = laid-at d (rw laid-pins at h) in omega (arith, k .starts, k .ends-at);
-      inside = λ d h. let m = rw laid-pins at h in let k = laid-at d m in omega (arith, k .ends-at, end-next (partsStart n) len d, end-mono (partsStart n) len (suc d) (height n) m, e);
-      short = λ d h. let m = rw laid-pins at h in let k = laid-at d m in omega (arith, k .starts, k .ends-at, short d m);
+      inside = λ d h. let m = rw laid-pins at h in omega (arith, laid-at d m .ends-at, within d m);
+      short = λ d h. let m = rw laid-pins at h in let k = laid-at d m in omega (arith, k .starts, k .ends-at, each d m .0);
+      exact = λ d h. let m = rw laid-pins at h in rw (laid-pins, laid-at d m .code-is, part-length d m) (each d m .1);
     }
+      where
+        within : (d : ℕ) → d < height n → endAfter (partsStart n) len d + len d ≤ length s
+        within d m = omega (arith, end-next (partsStart n) len d, end-mono (partsStart n) len (suc d) (height n) m)
+
+        part-length : (d : ℕ) → d < height n → length (partOf (laidOut n code len .ends) s d) ≡ len d
+        part-length d m =
+            let k = laid-at d m in
+            let start = endAfter (partsStart n) len d in
+            rw (k .starts, k .ends-at, add-sub-cancel-left start (len d)) (length-take-le (len d) (drop start s) (rw length-drop (omega (arith, within d m))))

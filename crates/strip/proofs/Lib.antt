@@ -7,7 +7,9 @@ pub mod Gaps
 pub mod Images
 pub mod Layouts
 pub mod Marked
+pub mod Nines
 pub mod OpenImages
+pub mod OpenStrips
 pub mod Openings
 pub mod Pieces
 pub mod Plans

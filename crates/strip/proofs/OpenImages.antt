@@ -9,7 +9,7 @@ use native.Mathlib.Omega.{arith}
 use lib.Dec.{eqb}
 use lib.ListN.{length, take, drop, getD, length-drop, take-append-drop}
 use lib.Seq.{take-add, take-all, drop-drop, getD-drop, length-take-le}
-use borrow.Author.Tests.{ltb-false, eqb-true, eqb-false, not-false}
+use borrow.Author.Tests.{eqb-true, eqb-false}
 use Rattle.codes.specs.Codes.{part, Within}
 use Rattle.codes.specs.Choice.{chosen as chosenFor}
 use Rattle.tree.specs.declared.nodes.Levels.{Levels}
@@ -20,46 +20,16 @@ use Rattle.tree.specs.Levels.{codeOf, partOf, levelValues}
 use Rattle.tree.specs.Listing.{timesAll, stopAll}
 use Rattle.tree.specs.Chosen.{allChosen}
 use Rattle.tree.proofs.Promises.{stored-levels, listing-finds, chosen-stored, stored-chosen, outcome-laws}
-use Rattle.tree.specs.Outcomes.{gives, Test, verdict}
+use Rattle.tree.specs.Outcomes.{gives}
 use Rattle.strip.specs.Layout.{maxPins, version, twoAt, fourAt, header, pinsOf, entry, codeAt, lengthAt, partsStart, endAfter, laidOut}
 use Rattle.strip.specs.Image.{Packable, codeFor, partFor, lengthFor, planned, entryFor, joined, stripOf, image}
 use Rattle.strip.specs.Calls.{listIn}
-use Rattle.strip.specs.Opening.{hasMark, headerTests, codeTests, lengthByEntries, lengthTest, levelTests, levelsIn, opening}
+use Rattle.strip.specs.Opening.{hasMark, levelsIn, opening}
 use Rattle.strip.proofs.Layouts.{laid-at, laid-pins, end-next, end-start, end-mono}
 use Rattle.strip.proofs.Plans.{level-code}
 use Rattle.strip.proofs.Images.{list-opens, image-code, image-stores}
+use Rattle.strip.proofs.OpenStrips.{Open, open-told}
 use Rattle.strip.proofs.Verdicts.{verdict-passed}
-
--- ---- what opening has found out
-
-pub record Open (s : List ℕ) (levels : Levels) : Type 0 where
-  pub levels-are : levelsIn s ≡ levels
-  pub long : partsStart (pinsOf s) ≤ length s
-  pub marked : hasMark s ≡ true
-  pub versioned : twoAt s 3 ≡ version
-  pub whole : lengthByEntries s ≡ length s
-
-codes-passed : {A : Type 0} (s : List ℕ) (ts : List Test) (a x : A) (k d : ℕ) → verdict (codeTests s k d ++ ts) a ≡ gives x → verdict ts a ≡ gives x
-unfolding codeTests
-codes-passed s ts a x zero d e = e
-codes-passed s ts a x (suc k) d e = codes-passed s ts a x k (suc d) (verdict-passed _ 8 (suc d) (codeTests s k (suc d) ++ ts) a x e .1)
-
-pub open-told : (s : List ℕ) (levels : Levels) → opening s ≡ gives levels → Open s levels
-unfolding opening
-open-told s levels e =
-    let t₁ = verdict-passed _ _ _ _ _ levels e in
-    let t₂ = verdict-passed _ _ _ _ _ levels (t₁ .1) in
-    let t₃ = verdict-passed _ _ _ _ _ levels (t₂ .1) in
-    let t₄ = verdict-passed _ _ _ _ _ levels (t₃ .1) in
-    let t₅ = verdict-passed _ _ _ _ _ levels (t₄ .1) in
-    let t₆ = verdict-passed _ _ _ _ _ levels (codes-passed s (lengthTest s ∷ []) (levelsIn s) levels (height (pinsOf s)) 0 (t₅ .1)) in
-    record {
-      levels-are = outcome-laws .given (headerTests s ++ levelTests s) (levelsIn s) levels e;
-      long = ltb-false (length s) (partsStart (pinsOf s)) (t₅ .0);
-      marked = not-false (hasMark s) (t₂ .0);
-      versioned = eqb-true (twoAt s 3) version (not-false (eqb (twoAt s 3) version) (t₃ .0));
-      whole = eqb-true (lengthByEntries s) (length s) (not-false (eqb (lengthByEntries s) (length s)) (t₆ .0));
-    }
 
 -- ---- numbers of several bytes, written again
 

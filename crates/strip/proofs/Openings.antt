@@ -1,19 +1,24 @@
--- Opening refuses by the first of 5, 6, 7, 1, 5, 8, 13 that holds, and otherwise finds the levels.
-use mathlib.Core.Path.{_≡_, sym, ap, _∙_}
+-- Opening refuses by the first of 5, 6, 7, 1, 5, then level by level 8 and 23, then 13 that holds, and otherwise finds the levels.
+use mathlib.Core.Path.{_≡_, refl, sym, ap, _∙_}
 use mathlib.Core.Bool.{true, false, not}
 use mathlib.Core.List.{List, [], _∷_, _++_}
-use Prim.Native.Nat.{ℕ, suc, _+_, _-_, _≤_, _<_}
+use Prim.Native.Nat.{ℕ, suc, _+_, _-_, _*_, _≤_, _<_}
+use native.Mathlib.Numerals.{add-one}
 use native.Mathlib.Omega.{arith}
 use lib.Dec.{eqb, ltb}
 use lib.ListN.{length, drop}
 use borrow.Author.Tests.{lt-ltb, le-ltb, eq-eqb, ne-eqb}
-use Rattle.codes.specs.Codes.{kindOf}
+use Rattle.codes.specs.declared.kinds.Kind.{Kind}
+use Rattle.codes.specs.declared.kinds.Kind.the-variants.{Fixed, Chunked, Refused}
+use Rattle.codes.specs.Bits.{bytesFor}
+use Rattle.codes.specs.Codes.{kindOf, isExact}
 use Rattle.strip.specs.declared.opening.Opening.{Opening}
 use Rattle.strip.specs.declared.opening.Status.{Status}
-use Rattle.tree.specs.Outcomes.{gives, refuses, after, Test, test, verdict}
+use Rattle.tree.specs.Levels.{countOf}
+use Rattle.tree.specs.Outcomes.{Outcome, gives, refuses, after, Test, test, verdict}
 use Rattle.tree.proofs.Promises.{outcome-laws}
-use Rattle.strip.specs.Layout.{version, twoAt, pinsOf, codeAt, partsStart}
-use Rattle.strip.specs.Opening.{hasMark, headerTests, isRefused, codeTests, lengthByEntries, lengthTest, levelTests, levelsIn, opening}
+use Rattle.strip.specs.Layout.{version, twoAt, pinsOf, codeAt, lengthAt, partsStart}
+use Rattle.strip.specs.Opening.{hasMark, headerTests, isRefused, entryTests, entryTestsAt, entriesTests, lengthByEntries, lengthTest, levelTests, levelsIn, opening}
 use Rattle.strip.specs.Opened.{statusOf, opened}
 use Rattle.strip.proofs.Verdicts.{verdict-holds, verdict-passes}
 
@@ -57,29 +62,42 @@ module _ (s : List ℕ) where
 
 -- ---- the levels, test by test
 
--- the code tests of the levels from the one below d others on, and what is tested then
+-- one level's, by its code and by whether it is as long as its values need
+module _ (level count code bytes : ℕ) where
+  pub entry-refused : kindOf code ≡ Refused → verdict (entryTests level count code bytes) level ≡ refuses 8 level
+  unfolding verdict test
+  entry-refused e = rw e
+
+  pub entry-other-length : (w : ℕ) → kindOf code ≡ Fixed w → (bytes ≡ bytesFor (count * w) → ⊥) → verdict (entryTests level count code bytes) level ≡ refuses 23 level
+  unfolding verdict test
+  entry-other-length w e n = rw (e, ne-eqb bytes (bytesFor (count * w)) n)
+
+  pub entry-passes : isExact (kindOf code) count bytes ≡ true → verdict (entryTests level count code bytes) level ≡ gives level
+  unfolding verdict test
+  entry-passes e = rw (known (kindOf code) e, e)
+    where
+      known : (k : Kind) → isExact k count bytes ≡ true → isRefused k ≡ false
+      known (Fixed w) q = refl
+      known (Chunked b) q = refl
+      known Refused q = cc
+
+-- the tests of the levels from the one below d others on, and what is tested then
 module _ {A : Type 0} (s : List ℕ) (ts : List Test) (a : A) where
-  pub codes-end : (k d : ℕ) → k ≡ 0 → verdict (codeTests s k d ++ ts) a ≡ verdict ts a
-  unfolding codeTests
-  codes-end k d e = rw e
+  pub entries-end : (k d : ℕ) → k ≡ 0 → verdict (entriesTests s k d ++ ts) a ≡ verdict ts a
+  unfolding entriesTests
+  entries-end k d e = rw e
 
-  pub codes-step : (k d : ℕ) → isRefused (kindOf (codeAt s d)) ≡ false → verdict (codeTests s (suc k) d ++ ts) a ≡ verdict (codeTests s k (suc d) ++ ts) a
-  unfolding codeTests
-  codes-step k d e = verdict-passes 8 (suc d) (codeTests s k (suc d) ++ ts) a (isRefused (kindOf (codeAt s d))) e
+  -- the tests of a level, then those of the levels below it
+  pub entries-step : (k d : ℕ) → verdict (entriesTests s (suc k) d ++ ts) a ≡ after (verdict (entryTestsAt s d) (suc d)) (λ _. verdict (entriesTests s k (suc d) ++ ts) a)
+  unfolding entriesTests
+  entries-step k d = outcome-laws .append (entryTestsAt s d) (entriesTests s k (suc d) ++ ts) a (suc d)
 
-  module _ (h d : ℕ) (l : d < h) where
-    one : h - d ≡ suc (h - (d + 1))
-    one = omega arith
-
-    next : suc d ≡ d + 1
-    next = omega arith
-
-    pub codes-refused : isRefused (kindOf (codeAt s d)) ≡ true → verdict (codeTests s (h - d) d ++ ts) a ≡ refuses 8 (d + 1)
-    unfolding codeTests
-    codes-refused e = rw one (verdict-holds 8 (suc d) (codeTests s (h - (d + 1)) (suc d) ++ ts) a (isRefused (kindOf (codeAt s d))) e ∙ ap (refuses 8) next)
-
-    pub codes-pass : isRefused (kindOf (codeAt s d)) ≡ false → verdict (codeTests s (h - d) d ++ ts) a ≡ verdict (codeTests s (h - (d + 1)) (d + 1) ++ ts) a
-    codes-pass e = rw one (codes-step (h - (d + 1)) d e ∙ ap (λ (i : ℕ). verdict (codeTests s (h - (d + 1)) i ++ ts) a) next)
+  -- of h levels
+  pub entries-next : (h d : ℕ) → d < h → (o : Outcome ℕ) → verdict (entryTests (d + 1) (countOf (pinsOf s) d) (codeAt s d) (lengthAt s d)) (d + 1) ≡ o
+      → verdict (entriesTests s (h - d) d ++ ts) a ≡ after o (λ _. verdict (entriesTests s (h - (d + 1)) (d + 1) ++ ts) a)
+  entries-next h d l o e =
+      let one : h - d ≡ suc (h - (d + 1)) = omega arith in
+      rw (one, ← e) (entries-step (h - (d + 1)) d ∙ ap (λ (i : ℕ). after (verdict (entryTests i (countOf (pinsOf s) d) (codeAt s d) (lengthAt s d)) i) (λ _. verdict (entriesTests s (h - (d + 1)) i ++ ts) a)) (sym (add-one d)))
 
 module _ {A : Type 0} (s : List ℕ) (a : A) where
   pub length-differs : (lengthByEntries s ≡ length s → ⊥) → verdict (lengthTest s ∷ []) a ≡ refuses 13 0

@@ -23,10 +23,11 @@ use Rattle.tree.proofs.Promises.{stored-levels, shape, held-reads, access-opens
 use Rattle.strip.specs.Image.{Packable, codeFor, planned, image}
 use Rattle.strip.specs.Opening.{opening}
 use Rattle.strip.specs.Calls.{accessIn, accessOf, searchOf, upToOf, repeatFrom, repeatOf, stepIn, stepOf}
-use Rattle.strip.specs.Promises.{RoomEnough, Opens, ImageOpens, ReadsBack, RoundTrip, RepeatLater, TimeOpens}
+use Rattle.strip.specs.Promises.{RoomEnough, Opens, ImageOpens, ReadsBack, RoundTrip, RepeatLater, TimeOpens, NineChunked}
 use Rattle.strip.proofs.Counts.{smaller-next, upTo-all}
 use Rattle.strip.proofs.Images.{within, list-opens, image-code, image-stores}
 use Rattle.strip.proofs.Layouts.{height-fits}
+use Rattle.strip.proofs.Nines.{only-chunked}
 use Rattle.strip.proofs.Readings.{positionOr1, repeat-lists, repeat-positive, gap-ordered}
 use Rattle.strip.proofs.Plans.{strip-small, values-within}
 
@@ -125,3 +126,6 @@ time-opens = record { access = λ s i f. access s i f (opening s); step = λ s i
             same : gives (Option.some g) ≡ gives (Option.some f) → g ≡ f
             same h = cc
         go false (refuses r c) p q = absurd (outcome-laws .never (sym q))
+
+pub nine-chunked : NineChunked
+nine-chunked = only-chunked

@@ -1,4 +1,4 @@
--- 01's marked cases, and the examples of its table of refusals, computed. The example of 2, a list of 65,536, is too long for it and
+-- 01's marked cases, the examples of its table of refusals, and those of 23 (02), computed. The example of 2, a list of 65,536, is too long for it and
 -- stands beside `marked-says`.
 use mathlib.Core.Bool.{Bool, true, false, _&&_}
 use mathlib.Core.Path.{_≡_, refl}
@@ -25,7 +25,7 @@ use Rattle.tree.specs.Listing.{timesFrom}
 use Rattle.strip.specs.Lists.{firstLower}
 use Rattle.strip.specs.Layout.{maxPins, maxHeight, header, entry, endAfter, filled, laidOut}
 use Rattle.strip.specs.Image.{codeFor, partFor, joined, stripOf, image}
-use Rattle.strip.specs.Opening.{codeTests, opening}
+use Rattle.strip.specs.Opening.{entriesTests, opening}
 use Rattle.strip.specs.Calls.{packOf, packOutput, accessOf, searchOf, upToOf, sweepOf, sweepOutput, positionsTests, listIn, checkOf, plainList, unpackOf, unpackOutput, repeatFrom, repeatOf, stepOf, nextOf}
 
 -- list A with its strip, and strip B, that of the list 0
@@ -56,9 +56,20 @@ wasteful = header 1 ++ entry 65 1 ++ (0x00 ∷ [])
 abbrev high : List ℕ
 high = header 3 ++ entry 3 1 ++ entry 32 8 ++ (0xa0 ∷ 0 ∷ 0 ∷ 0 ∷ 0 ∷ 255 ∷ 255 ∷ 255 ∷ 255 ∷ [])
 
--- the same, with level 2 ending before node 3's value
+-- n = 1: code 65 with no bytes
+abbrev bare : List ℕ
+bare = header 1 ++ entry 65 0
+
+-- n = 3: the root 5, node 2 storing 0, and in chunks of 8 bits no room for the second one of node 3
+abbrev chunkless : List ℕ
+chunkless = header 3 ++ entry 3 1 ++ entry 72 3 ++ (0xa0 ∷ 0x40 ∷ 0 ∷ 0 ∷ [])
+
+-- n = 3: level 2 of width 32 has one value's bytes, and three values'
 abbrev cut : List ℕ
 cut = header 3 ++ entry 3 1 ++ entry 32 4 ++ (0xa0 ∷ 0 ∷ 0 ∷ 0 ∷ 0 ∷ [])
+
+abbrev long : List ℕ
+long = header 3 ++ entry 3 1 ++ entry 32 12 ++ (0xa0 ∷ replicate 12 0)
 
 pub data Case : Type 0 where
   -- the list, the output lent, the answer, and the output after it
@@ -99,7 +110,7 @@ marked =
     ∷ steps a 0 (gives (some (found 100 3))) 1 ∷ steps a 1 (gives (some (found 250 2))) 2 ∷ steps a 2 (gives (some (found 250 3))) 3 ∷ steps a 3 (gives (some (found 400 1))) 4
     ∷ steps a 4 (gives (some (found 1000 2))) 5 ∷ steps a 5 (gives none) 5 ∷ steps a 4294967296 (gives none) 4294967296
     -- a refused step does not move it; beyond the end only opening is refused, and it does not look for 11
-    ∷ steps (set b 7 1) 0 (refuses 9 1) 0 ∷ steps low 0 (refuses 10 2) 0 ∷ steps low 2 (gives none) 2 ∷ steps (take 3 b) 7 (refuses 5 0) 7
+    ∷ steps bare 0 (refuses 9 1) 0 ∷ steps low 0 (refuses 10 2) 0 ∷ steps low 2 (gives none) 2 ∷ steps (take 3 b) 7 (refuses 5 0) 7
     ∷ steps fallen 3 (gives (some (found 400 1))) 4
     -- the greatest pin count has the greatest height, and one more has not
     ∷ tall maxPins maxHeight ∷ tall (maxPins + 1) (maxHeight + 1)
@@ -109,7 +120,7 @@ marked =
     ∷ searches (take 3 b) 0 (refuses 5 0) ∷ searches (set b 2 0x4f) 0 (refuses 6 0) ∷ searches (set b 4 2) 0 (refuses 7 0) ∷ searches (set b 7 33) 0 (refuses 8 1)
     ∷ searches (b ++ (0 ∷ [])) 0 (refuses 13 0) ∷ accesses a 5 (refuses 14 0)
     -- of 9 and 10
-    ∷ accesses (set b 7 1) 0 (refuses 9 1) ∷ searches low 0 (refuses 10 2)
+    ∷ accesses bare 0 (refuses 9 1) ∷ searches low 0 (refuses 10 2)
     -- of 11 and 12, and of 4 for unpack
     ∷ checks fallen (refuses 11 3) ∷ checks wasteful (refuses 12 0) ∷ unpacks a (replicate 4 7) (refuses 4 5) (replicate 4 7)
     -- a refused check writes nothing; repeat does not look for 12, and tells 11 or the gap by what comes first
@@ -119,12 +130,17 @@ marked =
     ∷ sweeps a (1 ∷ 2 ∷ []) (replicate 3 7) (refuses 15 0) (replicate 3 7) ∷ sweeps a (9 ∷ 8 ∷ []) (replicate 2 7) (refuses 16 1) (replicate 2 7)
     ∷ sweeps (take 3 b) (9 ∷ 8 ∷ []) (7 ∷ []) (refuses 5 0) (7 ∷ []) ∷ sweeps a (9 ∷ 8 ∷ []) (7 ∷ []) (refuses 15 0) (7 ∷ [])
     -- a sweep met by 9 or 10 has written the answers before it, and one by no targets opens no node
-    ∷ sweeps cut (5 ∷ 6 ∷ 7 ∷ []) (replicate 3 7) (refuses 9 3) (0 ∷ 7 ∷ 7 ∷ []) ∷ sweeps high (5 ∷ 6 ∷ 7 ∷ []) (replicate 3 7) (refuses 10 3) (0 ∷ 7 ∷ 7 ∷ [])
-    ∷ sweeps (set b 7 1) [] [] (gives 0) []
+    ∷ sweeps chunkless (5 ∷ 6 ∷ 7 ∷ []) (replicate 3 7) (refuses 9 3) (0 ∷ 7 ∷ 7 ∷ []) ∷ sweeps high (5 ∷ 6 ∷ 7 ∷ []) (replicate 3 7) (refuses 10 3) (0 ∷ 7 ∷ 7 ∷ [])
+    ∷ sweeps bare [] [] (gives 0) []
     -- opening's own 1 and second 5; two faults at once, of which the first tested is told; no refusal but opening's at the greatest time
     ∷ searches (set b 6 0) 0 (refuses 1 0) ∷ searches (set b 6 5) 0 (refuses 5 0)
     ∷ searches (set (set b 4 2) 6 0) 0 (refuses 7 0) ∷ searches (set b 7 33 ++ (0 ∷ [])) 0 (refuses 8 1)
     ∷ upTos (b ++ (0 ∷ [])) 4294967295 (refuses 13 0) ∷ upTos low 4294967295 (gives (found 2 0))
+    -- of 23: n = 1 in width 1 and no bytes; the same with a byte after it, where 13 holds too; a cut and a too long level; width 0 with a byte
+    ∷ accesses (set b 7 1) 0 (refuses 23 1) ∷ searches (set b 7 1 ++ (0 ∷ [])) 0 (refuses 23 1)
+    ∷ checks cut (refuses 23 2) ∷ repeats long 0 (refuses 23 2) ∷ unpacks (set b 11 1 ++ (0 ∷ [])) (7 ∷ []) (refuses 23 1) (7 ∷ [])
+    -- a cut level 2 before a refused code of level 3, and after one of level 1; it writes nothing
+    ∷ sweeps (set (set a 12 13) 17 33) (5 ∷ []) (7 ∷ []) (refuses 23 2) (7 ∷ []) ∷ steps (set cut 7 33) 0 (refuses 8 1) 0
     ∷ []
 
 -- what a case says; `marked-says` in proofs/Marked has it of each entry
@@ -178,6 +194,6 @@ all (c ∷ cs) = passes c && all cs
 pub marked-pass : all marked ≡ true
 unfolding bits number sum fixed numbers padded kindOf rest layers kindBits widthIn widest bestChunked chosen fixedAt fetchLayers chunkedAt fetched height
     rootPlace childOf stretchIn stretch rank ordered timeOf timeAbove stored storedFrom fetchedAt nodeTimeIn nodeTime walkIn walk met toward lastOf
-    accessAnswer remember targetFrom dropped legsFrom opened positions firstLower test verdict endAfter filled laidOut codeFor partFor joined stripOf codeTests opening packOf packOutput
+    accessAnswer remember targetFrom dropped legsFrom opened positions firstLower test verdict endAfter filled laidOut codeFor partFor joined stripOf entriesTests opening packOf packOutput
     accessOf searchOf upToOf sweepOf sweepOutput timesFrom positionsTests listIn checkOf plainList unpackOf unpackOutput repeatFrom repeatOf stepOf nextOf
 marked-pass = refl

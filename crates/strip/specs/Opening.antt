@@ -6,9 +6,10 @@ use lib.Dec.{eqb, ltb}
 use lib.ListN.{length, getD}
 use Rattle.codes.specs.declared.kinds.Kind.{Kind}
 use Rattle.codes.specs.declared.kinds.Kind.the-variants.{Fixed, Chunked, Refused}
-use Rattle.codes.specs.Codes.{kindOf}
+use Rattle.codes.specs.Codes.{kindOf, isExact}
 use Rattle.tree.specs.declared.nodes.Levels.{Levels}
 use Rattle.tree.specs.Shape.{height}
+use Rattle.tree.specs.Levels.{countOf}
 use Rattle.tree.specs.Outcomes.{Outcome, Test, test, verdict}
 use Rattle.strip.specs.Layout.{mark, version, twoAt, pinsOf, codeAt, lengthAt, partsStart, endAfter, laidOut}
 
@@ -32,10 +33,22 @@ isRefused (Fixed w) = false
 isRefused (Chunked b) = false
 isRefused Refused = true
 
--- 8 for each of k levels, from the one below d others on
-unfoldable pub codeTests : List ℕ → ℕ → ℕ → List Test
-codeTests s zero d = []
-codeTests s (suc k) d = test (isRefused (kindOf (codeAt s d))) 8 (suc d) ∷ codeTests s k (suc d)
+-- The tests of a level of so many values, by its entry: 8, and directly after it 23, a fixed level without exactly the fewest bytes for its
+-- width and number of values. Of a refused code the second would hold too, but the first comes before it.
+abbrev pub entryTests : ℕ → ℕ → ℕ → ℕ → List Test
+entryTests level count code bytes =
+    test (isRefused (kindOf code)) 8 level
+    ∷ test (not (isExact (kindOf code) count bytes)) 23 level
+    ∷ []
+
+-- those of the level below d others
+abbrev pub entryTestsAt : List ℕ → ℕ → List Test
+entryTestsAt s d = entryTests (suc d) (countOf (pinsOf s) d) (codeAt s d) (lengthAt s d)
+
+-- of each of k levels, from the one below d others on
+unfoldable pub entriesTests : List ℕ → ℕ → ℕ → List Test
+entriesTests s zero d = []
+entriesTests s (suc k) d = entryTestsAt s d ++ entriesTests s k (suc d)
 
 -- 7 + 5h and the parts' lengths
 abbrev pub lengthByEntries : List ℕ → ℕ
@@ -44,9 +57,9 @@ lengthByEntries s = endAfter (partsStart (pinsOf s)) (lengthAt s) (height (pinsO
 abbrev pub lengthTest : List ℕ → Test
 lengthTest s = test (not (eqb (lengthByEntries s) (length s))) 13 0
 
--- 8 from level 1 on, 13
+-- 8 and 23 level by level, 13
 abbrev pub levelTests : List ℕ → List Test
-levelTests s = codeTests s (height (pinsOf s)) 0 ++ (lengthTest s ∷ [])
+levelTests s = entriesTests s (height (pinsOf s)) 0 ++ (lengthTest s ∷ [])
 
 -- the levels that the header and the level entries tell
 abbrev pub levelsIn : List ℕ → Levels

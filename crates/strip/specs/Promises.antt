@@ -1,5 +1,5 @@
 -- What is shown of strips besides each call's contract and the demands. proofs/Promises proves each, as `room-enough`, `image-opens`,
--- `round-trip`, `repeat-later` and `time-opens`.
+-- `round-trip`, `repeat-later`, `time-opens` and `nine-chunked`.
 use mathlib.Core.Path.{_≡_}
 use mathlib.Core.Bool.{cond}
 use mathlib.Core.List.{List}
@@ -7,16 +7,19 @@ use mathlib.Core.Option.{none, some}
 use Prim.Native.Nat.{ℕ, suc, _+_, _-_, _*_, _^_, _≤_, _<_}
 use lib.Dec.{eqb, leb}
 use lib.ListN.{length, getD}
+use Rattle.codes.specs.Codes.{Within}
 use Rattle.tree.specs.declared.nodes.Levels.{Levels}
 use Rattle.tree.specs.Lists.{smaller}
 use Rattle.tree.specs.declared.walking.Found.{Found}
-use Rattle.tree.specs.Outcomes.{gives}
+use Rattle.tree.specs.Levels.{OnChunked}
+use Rattle.tree.specs.Outcomes.{Outcome, gives, refuses}
 use Rattle.tree.specs.Times.{timesIn}
 use Rattle.tree.specs.Walks.{found, toward, searchNodes, path}
 use Rattle.strip.specs.Lists.{upTo, firstGap}
 use Rattle.strip.specs.Layout.{maxBytes, partsStart}
 use Rattle.strip.specs.Image.{Packable, image}
-use Rattle.strip.specs.Calls.{accessOf, searchOf, upToOf, repeatOf, stepOf}
+use Rattle.strip.specs.Opening.{opening}
+use Rattle.strip.specs.Calls.{accessOf, searchOf, upToOf, sweepOf, checkOf, unpackOf, repeatOf, stepOf}
 use Rattle.strip.specs.Demands.{FewestBits}
 
 -- 1. Room for 4 bytes a pin after the level entries is always enough, so 262,227 bytes for any list.
@@ -52,3 +55,20 @@ RepeatLater = (s : List ℕ) (r i : ℕ) → repeatOf s r ≡ gives (some i) →
 pub record TimeOpens : Type 0 where
   pub access : (s : List ℕ) (i : ℕ) (f : Found) → accessOf s i ≡ gives f → (f .value < 2 ^ 32) × (1 ≤ f .nodes)
   pub step : (s : List ℕ) (i : ℕ) (f : Found) → stepOf s i ≡ gives (some f) → (f .value < 2 ^ 32) × (1 ≤ f .nodes)
+
+-- 6. 9 remains for chunked levels: in any call on any bytes it carries a node of 1 to n on one, of a strip that opens.
+abbrev pub CarriesChunked : {A : Type 0} → List ℕ → Outcome A → Type 0
+CarriesChunked s o = (v : ℕ) → o ≡ refuses 9 v → (levels : Levels) × (opening s ≡ gives levels) × OnChunked levels v
+
+pub record EveryNine (s : List ℕ) : Type 0 where
+  pub access : (i : ℕ) → CarriesChunked s (accessOf s i)
+  pub search : (t : ℕ) → CarriesChunked s (searchOf s t)
+  pub up-to : (t : ℕ) → CarriesChunked s (upToOf s t)
+  pub sweep : (ts : List ℕ) (room : ℕ) → CarriesChunked s (sweepOf s ts room)
+  pub check : CarriesChunked s (checkOf s)
+  pub unpack : (room : ℕ) → CarriesChunked s (unpackOf s room)
+  pub repeat : (r : ℕ) → CarriesChunked s (repeatOf s r)
+  pub step : (i : ℕ) → CarriesChunked s (stepOf s i)
+
+abbrev pub NineChunked : Type 0
+NineChunked = (s : List ℕ) → Within 8 s → EveryNine s

@@ -1,8 +1,8 @@
--- 01's number for each refusal of the code, and what it carries.
+-- The number of 01 or 02 for each refusal of the code, and what it carries.
 use Prim.Native.Nat.{ℕ}
 use Rattle.tree.specs.Outcomes.{Outcome, refuses}
 use Rattle.strip.specs.declared.refusals.Refusal.{Refusal}
-use Rattle.strip.specs.declared.refusals.Refusal.the-variants.{Empty, TooMany, ListFalls, Short, Cut, Mark, Version, Code, Fetch, Time, TimesFall, Image, Length, Position, Answers, TargetsFall}
+use Rattle.strip.specs.declared.refusals.Refusal.the-variants.{Empty, TooMany, ListFalls, Short, Cut, Mark, Version, Code, Fetch, Time, TimesFall, Image, Length, Position, Answers, TargetsFall, LevelLength}
 
 abbrev pub refusalNumber : Refusal → ℕ
 refusalNumber Empty = 1
@@ -21,6 +21,7 @@ refusalNumber Length = 13
 refusalNumber Position = 14
 refusalNumber Answers = 15
 refusalNumber (TargetsFall i) = 16
+refusalNumber (LevelLength level) = 23
 
 abbrev pub carried : Refusal → ℕ
 carried Empty = 0
@@ -39,6 +40,7 @@ carried Length = 0
 carried Position = 0
 carried Answers = 0
 carried (TargetsFall i) = i
+carried (LevelLength level) = level
 
 -- as an outcome
 abbrev pub refusal : {A : Type 0} → Refusal → Outcome A

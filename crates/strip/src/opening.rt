@@ -8,11 +8,10 @@ use tree::Levels;
 ghost use mathlib.Core.Path.{_≡_};
 ghost use Prim.Native.Nat.{_^_, _<_, _≤_};
 ghost use lib.ListN.{length};
-ghost use Rattle.codes.specs.Codes.{kindOf};
 ghost use Rattle.strip.specs.Layout.{pinsOf, partsStart};
 ghost use Rattle.tree.specs.Outcomes.{verdict};
-ghost use Rattle.strip.specs.Opening.{headerTests, isRefused, levelTests, levelsIn, opening};
-ghost use Rattle.strip.specs.Opened.{opened, FitsOpen, headerOutcome, HeaderFits};
+ghost use Rattle.strip.specs.Opening.{headerTests, entryTests, levelTests, levelsIn, opening};
+ghost use Rattle.strip.specs.Opened.{statusOf, opened, FitsOpen, headerOutcome, HeaderFits};
 
 // Whether a strip is open.
 pub(crate) enum Status {
@@ -62,23 +61,28 @@ fn header_of(s: &[u8]) -> Header
     Header::Pins(n)
 }
 
-// Whether a byte is no level code.
-fn is_refused(code: u8) -> bool
-    ensures { λ r. ⌜ r ≡ isRefused (kindOf code) ⌝ }
+// Tests 8 and 23 of a level of `count` values, by its entry; open where both pass.
+fn entry_status(level: usize, count: usize, code: u8, bytes: usize) -> Status
+    requires { ⌜ count < 2 ^ 32 ⌝ }
+    ensures { λ r. ⌜ statusOf r level ≡ verdict (entryTests level count code bytes) level ⌝ }
 {
     let kind = codes::kind_of(code);
     match kind {
-        Kind::Fixed(_) => false,
-        Kind::Chunked(_) => false,
-        Kind::Refused => true,
+        Kind::Fixed(w) => {
+            if bytes == (count * w + 7) / 8 {
+                return Status::Open;
+            }
+            Status::Refused(Refusal::LevelLength(level))
+        }
+        Kind::Chunked(_) => Status::Open,
+        Kind::Refused => Status::Refused(Refusal::Code(level)),
     }
 }
 
-// Tests 8 and 13, for n pins whose level entries lie whole in the strip.
+// Tests 8 and 23 level by level, and 13, for n pins whose level entries lie whole in the strip.
 fn levels_of(s: &[u8], n: usize) -> Opening
     requires { ⌜ (n ≡ pinsOf (now s)) × (n < 2 ^ 16) × (partsStart n ≤ length (now s)) ⌝ }
     ensures { λ r. ⌜ opened r ≡ verdict (levelTests (now (s .entry))) (levelsIn (now (s .entry))) ⌝ }
-    ensures { λ r. ⌜ FitsOpen (r .status) (r .levels) (now (s .entry)) ⌝ }
 {
     let h = tree::height(n);
     let mut levels = no_levels(n);
@@ -86,13 +90,18 @@ fn levels_of(s: &[u8], n: usize) -> Opening
     let mut d: usize = 0;
     while d < h {
         let code = s[7 + 5 * d];
-        if is_refused(code) {
-            return Opening {
-                status: Status::Refused(Refusal::Code(d + 1)),
-                levels: levels,
-            };
+        let bytes = four_at(s, 8 + 5 * d);
+        let status = entry_status(d + 1, tree::count_of(n, d), code, bytes);
+        match status {
+            Status::Open => {}
+            Status::Refused(r) => {
+                return Opening {
+                    status: Status::Refused(r),
+                    levels: levels,
+                };
+            }
         }
-        end += four_at(s, 8 + 5 * d);
+        end += bytes;
         levels.codes[d] = code;
         levels.ends[d + 1] = end;
         d += 1;

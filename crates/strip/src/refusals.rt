@@ -20,7 +20,7 @@ pub enum Refusal {
     Version,
     // 8: a level code that is refused; the level.
     Code(usize),
-    // 9: a fetch passes its part, or its value is 2^32 or more; the node.
+    // 9: a fetch from a chunked level passes its part, or its value is 2^32 or more; the node.
     Fetch(usize),
     // 10: a time below 0 or above 4,294,967,295; the node.
     Time(usize),
@@ -36,6 +36,8 @@ pub enum Refusal {
     Answers,
     // 16: the targets fall; the first lower index.
     TargetsFall(usize),
+    // 23: a fixed level has not exactly the fewest bytes for its width and number of values; the level.
+    LevelLength(usize),
 }
 
 // A walk's refusal as a strip's.

@@ -3,7 +3,7 @@ use strip::Refusal;
 ghost use mathlib.Core.Path.{_≡_};
 ghost use Rattle.strip.specs.Refusals.{refusalNumber, carried};
 
-// 01's number for a refusal.
+// The number of 01 or 02 for a refusal.
 pub fn number(r: Refusal) -> usize
     ensures { λ x. ⌜ x ≡ refusalNumber r ⌝ }
 {
@@ -24,6 +24,7 @@ pub fn number(r: Refusal) -> usize
         Refusal::Position => 14,
         Refusal::Answers => 15,
         Refusal::TargetsFall(_) => 16,
+        Refusal::LevelLength(_) => 23,
     }
 }
 
@@ -48,5 +49,6 @@ pub fn carried(r: Refusal) -> usize
         Refusal::Position => 0,
         Refusal::Answers => 0,
         Refusal::TargetsFall(i) => i,
+        Refusal::LevelLength(level) => level,
     }
 }

@@ -13,7 +13,7 @@ use lib.ListN.{length}
 use borrow.Author.Tests.{lt-ltb, eq-eqb, ne-eqb}
 use Rattle.codes.specs.Bits.{sum}
 use Rattle.tree.specs.Sweeps.{occurrences, sumTo}
-use Rattle.tree.proofs.Walks.{Among}
+use Rattle.tree.specs.Walks.{Among}
 
 -- 1 where a test is passed, else 0
 abbrev pub bit : Bool → ℕ

@@ -3,7 +3,7 @@ use mathlib.Core.Path.{_≡_, refl, sym, ap, _∙_}
 use mathlib.Core.Bool.{Bool, true, false, cond}
 use mathlib.Core.List.{List}
 use Prim.Native.Nat.{ℕ, zero, suc, _+_, _-_, _*_, _/_, _%_, _^_, _≤_, _<_, min}
-use native.Mathlib.Nat.{le-refl, pow-succ'}
+use native.Mathlib.Nat.{pow-succ'}
 use native.Mathlib.Decide.{decLt}
 use native.Mathlib.Omega.{arith}
 use lib.ListN.{length, drop, getD, length-take, length-drop, List·getD-eq-default}
@@ -66,37 +66,40 @@ stored-within w xs h j = elim (decLt j (length xs)) [
 pub level-at : (values : List ℕ) (d j : ℕ) → j < countOf (length values) d → getD (levelValues values d) j 0 ≡ getD values (2 ^ d - 1 + j) 0
 level-at values d j h = getD-take (countOf (length values) d) (drop (2 ^ d - 1) values) j 0 h ∙ getD-drop (2 ^ d - 1) values j 0
 
-level-few : (values : List ℕ) (d : ℕ) → length (levelValues values d) ≤ countOf (length values) d
-level-few values d = rw length-take (omega arith)
+pub level-count : (values : List ℕ) (d : ℕ) → length (levelValues values d) ≡ countOf (length values) d
+level-count values d = rw (length-take, length-drop, count-is (length values) d) (go (length values) (2 ^ d) (pow-pos d))
+  where
+    go : (n p : ℕ) → 1 ≤ p → min (min (n + 1 - p) p) (n - (p - 1)) ≡ min (n + 1 - p) p
+    go n p h = omega arith
 
 pub level-within : (w : ℕ) (values : List ℕ) (d : ℕ) → Within w values → Within w (levelValues values d)
 level-within w values d h i = elim (decLt i (countOf (length values) d)) [
   | yes k ↦ rw (level-at values d i k) (h (2 ^ d - 1 + i))
-  | no n ↦ rw (List·getD-eq-default (levelValues values d) 0 {n = i} (omega (arith, level-few values d))) (pow-pos w)
+  | no n ↦ rw (List·getD-eq-default (levelValues values d) 0 {n = i} (omega (arith, level-count values d))) (pow-pos w)
 ]
 
 pub level-half : (values : List ℕ) (d : ℕ) → 2 * length (levelValues values d) ≤ length values + 1
-level-half values d = omega (arith, level-few values d, count-is (length values) d)
+level-half values d = omega (arith, level-count values d, count-is (length values) d)
 
 pub level-above : (values : List ℕ) (d : ℕ) → min (length values) (2 ^ d - 1) + length (levelValues values d) ≤ min (length values) (2 ^ suc d - 1)
 level-above values d =
-    go (length values) (2 ^ d) (2 ^ suc d) (length (levelValues values d)) (pow-pos d) (pow-succ' 2 d) (omega (arith, level-few values d, count-is (length values) d))
+    go (length values) (2 ^ d) (2 ^ suc d) (length (levelValues values d)) (pow-pos d) (pow-succ' 2 d) (omega (arith, level-count values d, count-is (length values) d))
   where
     go : (n p q m : ℕ) → 1 ≤ p → q ≡ 2 * p → m ≤ min (n + 1 - p) p → min n (p - 1) + m ≤ min n (q - 1)
     go n p q m h e l = omega arith
 
--- a level among the first k of the tree has all its nodes among theirs, and a value for each
+-- a level among the first k of the tree has all its nodes among theirs
 pub level-inside : (n d k : ℕ) → d < k → k ≤ height n → 2 ^ d - 1 + countOf n d ≤ min n (2 ^ k - 1)
 level-inside n d k few high = go n (2 ^ d) (2 ^ suc d) (2 ^ k) (level-starts n d (omega arith)) (pow-pos d) (pow-succ' 2 d) (pow-mono few)
   where
     go : (n p q r : ℕ) → p ≤ n → 1 ≤ p → q ≡ 2 * p → q ≤ r → p - 1 + (suc (min n (q - 1)) - p) ≤ min n (r - 1)
     go n p q r a b c d = omega arith
 
-pub level-length : (xs : List ℕ) (d : ℕ) → d < height (length xs) → length (levelValues (storedValues xs) d) ≡ countOf (length xs) d
-level-length xs d few = rw (length-take, length-drop, length-stored xs) (omega (arith, level-inside (length xs) d (suc d) (le-refl (suc d)) few))
+pub level-length : (xs : List ℕ) (d : ℕ) → length (levelValues (storedValues xs) d) ≡ countOf (length xs) d
+level-length xs d = level-count (storedValues xs) d ∙ ap (λ (n : ℕ). countOf n d) (length-stored xs)
 
 -- a node stands on its level, and the level in the tree
-on-level : (n v : ℕ) → 1 ≤ v → v ≤ n → let d = levelOf v in (d < height n) × (2 ^ d ≤ v) × (v - 2 ^ d < countOf n d)
+pub on-level : (n v : ℕ) → 1 ≤ v → v ≤ n → let d = levelOf v in (d < height n) × (2 ^ d ≤ v) × (v - 2 ^ d < countOf n d)
 on-level n v h k =
     let t = digits v h in
     let e : levelOf v ≡ t .top = omega (arith, t .is) in
@@ -120,7 +123,7 @@ pub decoded-back : {levels : Levels} {s xs : List ℕ} → Stores levels s xs �
     → decodedAt levels s d ≡ all (levelValues (storedValues xs) d)
 decoded-back {levels} {s} {xs} w d few =
     ap (λ (n : ℕ). decoded (codeOf levels d) (countOf n d) (partOf (levels .ends) s d)) (w .pins-are)
-    ∙ ap (λ (n : ℕ). decoded (codeOf levels d) n (partOf (levels .ends) s d)) (sym (level-length xs d few))
+    ∙ ap (λ (n : ℕ). decoded (codeOf levels d) n (partOf (levels .ends) s d)) (sym (level-length xs d))
     ∙ ap (decoded (codeOf levels d) (length (levelValues (storedValues xs) d))) (w .parts-are d few)
     ∙ decode-back (codeOf levels d) (levelValues (storedValues xs) d) (w .holds d few)
 

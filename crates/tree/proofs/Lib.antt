@@ -1,5 +1,6 @@
 -- Laws that the proofs of the functions cite, each file about what its first line says; Promises proves what specs/Promises states.
 pub mod AllValues
+pub mod ChunkedNodes
 pub mod Contents
 pub mod Counts
 pub mod Dropping

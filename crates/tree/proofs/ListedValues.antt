@@ -126,7 +126,7 @@ module _ (levels : Levels) (s : List ℕ) (whole : stopAll levels s ≡ gives tt
     count-in = omega (arith, level-inside (levels .pins) d (suc d) (le-refl (suc d)) few)
 
     stores-length : length stores ≡ countOf (levels .pins) d
-    stores-length = level-length list d (rw list-length few) ∙ ap (λ (n : ℕ). countOf n d) list-length
+    stores-length = level-length list d ∙ ap (λ (n : ℕ). countOf n d) list-length
 
     -- what a level is decoded to
     level-values : (vs : List ℕ) → decodedAt levels s d ≡ all vs → vs ≡ stores

@@ -11,7 +11,7 @@ use Rattle.tree.specs.Levels.{levelOf, fetchedAt}
 use Rattle.tree.specs.declared.walking.Found.{Found}
 use Rattle.tree.specs.Times.{timesIn}
 use Rattle.tree.specs.Walks.{toward, accessAnswer}
-use Rattle.tree.specs.Promises.{HeightLeast, Shape, Contents, HeldReads, DifferentFew, AccessOpens, StoredLevels, ListingFinds, ChosenStored, StoredChosen, DecodedChosen, ZeroMarks, OutcomeLaws, SweepRises}
+use Rattle.tree.specs.Promises.{HeightLeast, Shape, Contents, HeldReads, DifferentFew, AccessOpens, StoredLevels, ListingFinds, ChosenStored, StoredChosen, DecodedChosen, ZeroMarks, OutcomeLaws, SweepRises, NineChunked}
 use Rattle.tree.proofs.Heights.{digits, height-above, height-bound, height-le}
 use Rattle.tree.proofs.NodeFetches.{level-is}
 use Rattle.tree.proofs.Stretches.{stretch-root, stretch-left, stretch-right, node-iff}
@@ -22,6 +22,7 @@ use Rattle.tree.proofs.Ranks.{rank-lt, rank-found}
 use Rattle.tree.proofs.Walks.{walk-length, toward-on, met-gives}
 use Rattle.tree.proofs.Paths.{toward-rank, rank-once, fromRoot-length, access-answer, search-path, search-answer}
 use Rattle.tree.proofs.Sweeps.{sweep-positions, sweep-answer, sweep-once, sweep-sums, different-pins, different-heights}
+use Rattle.tree.proofs.ChunkedNodes.{only-chunked}
 use Rattle.tree.proofs.Contents.{times-back}
 use Rattle.tree.proofs.Listings.{times-all, times-known}
 use Rattle.tree.proofs.TimeBounds.{access-small, times-within}
@@ -29,7 +30,7 @@ use Rattle.tree.proofs.ListedValues.{listed-chosen}
 use Rattle.tree.proofs.LevelMarks.{marks-zero}
 use Rattle.tree.proofs.AllValues.{all-of}
 use Rattle.tree.proofs.LevelsChosen.{undecoded-other, codes-chosen}
-use Rattle.tree.proofs.LevelValues.{length-stored, stored-within, level-within, level-half, level-above, fetched-stored}
+use Rattle.tree.proofs.LevelValues.{length-stored, stored-within, level-within, level-count, level-half, level-above, fetched-stored}
 
 pub height-least : HeightLeast
 height-least = record {
@@ -90,7 +91,7 @@ access-opens = record {
 }
 
 pub stored-levels : StoredLevels
-stored-levels = record { count = length-stored; within = stored-within; level-within = level-within; half = level-half; above = level-above }
+stored-levels = record { count = length-stored; within = stored-within; level-within = level-within; level-count = level-count; half = level-half; above = level-above }
 
 pub listing-finds : ListingFinds
 listing-finds = record { within = λ levels s k. times-within levels s k 0; count = λ answer k. times-all answer k 0 }
@@ -115,3 +116,6 @@ outcome-laws = record { same = gives-same; never = gives-refuses; append = verdi
 
 pub sweep-rises : SweepRises
 sweep-rises = nodes-rise
+
+pub nine-chunked : NineChunked
+nine-chunked = only-chunked

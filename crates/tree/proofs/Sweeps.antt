@@ -13,10 +13,10 @@ use Rattle.tree.specs.Shape.{height, childOf, rank}
 use Rattle.tree.specs.Lists.{ordered, smaller}
 use Rattle.tree.specs.Stored.{timeOf}
 use Rattle.tree.specs.Outcomes.{Outcome, gives}
-use Rattle.tree.specs.Walks.{walk, never, isBelow, remember, position, keptFrom, path}
+use Rattle.tree.specs.Walks.{walk, Among, never, isBelow, remember, position, keptFrom, path}
 use Rattle.tree.specs.Sweeps.{Dropped, dropped, Leg, leg, legsFrom, legs, opened, sweepNodes, sweepAnswer, positions, sweepPositions, occurrences, onPath, sumTo, overDifferent, different}
 use Rattle.tree.proofs.Orders.{smaller-mono, ordered-head}
-use Rattle.tree.proofs.Walks.{walk-out, walk-length, Among, among-append, walk-among, met-none}
+use Rattle.tree.proofs.Walks.{walk-out, walk-length, among-append, walk-among, met-none}
 use Rattle.tree.proofs.Inorder.{Tree, out, node, tree, tree-le}
 use Rattle.tree.proofs.Preorder.{nodes-once}
 use Rattle.tree.proofs.Paths.{Cuts, cut-right, cut-left, walk-side, remember-side, search-path, search-cuts, search-position}
@@ -153,6 +153,31 @@ covered (suc b) now opened later r h c _ = omega arith
 covered zero (suc m) opened later r h c _ = omega arith
 covered zero zero opened later r h c e = let z : opened + later ≡ later = omega arith in rw z (e ∙ omega arith)
 
+-- ---- the nodes of a sweep are among 1 to n
+
+-- a target goes on from 1 or more
+from-one : (past : ℕ → Bool) (from : ℕ) (kept : List ℕ) → 1 ≤ from → 1 ≤ dropped past from kept .from
+unfolding dropped childOf
+from-one past from [] h = h
+from-one past from (v ∷ vs) h = go (past v) (from-one past (childOf true v) vs (omega arith))
+  where
+    go : (b : Bool) → 1 ≤ dropped past (childOf true v) vs .from → 1 ≤ cond b (dropped past (childOf true v) vs) (record { from = from; kept = v ∷ vs }) .from
+    go true l = l
+    go false l = h
+
+legs-among : (n : ℕ) (time : ℕ → Outcome ℕ) (from : ℕ) (kept ts : List ℕ) → 1 ≤ from → Among n (opened (legsFrom n time from kept ts))
+unfolding legsFrom opened Among
+legs-among n time from kept [] h = tt
+legs-among n time from kept (t ∷ ts) h =
+    let past = isBelow time t in
+    let d = dropped past from kept in
+    let l = leg n time t d in
+    among-append n (l .nodes) (opened (legsFrom n time (suc n) (l .kept) ts)) (walk-among n never past (d .from) (from-one past from kept h))
+    (legs-among n time (suc n) (l .kept) ts (omega arith))
+
+pub sweep-among : (n : ℕ) (time : ℕ → Outcome ℕ) (ts : List ℕ) → Among n (sweepNodes n time ts)
+sweep-among n time ts = legs-among n time 1 [] ts (le-refl 1)
+
 -- ---- a sweep, where no node's time is refused
 
 module _ (xs : List ℕ) (time : ℕ → Outcome ℕ) (fine : (v : ℕ) → 1 ≤ v → v ≤ length xs → time v ≡ gives (timeOf xs v)) (o : T (ordered xs)) where
@@ -181,22 +206,20 @@ module _ (xs : List ℕ) (time : ℕ → Outcome ℕ) (fine : (v : ℕ) → 1 �
       (tree (length xs)) (smaller-mono s t xs h) [] (λ g. refl) in
       (r .0, r .1, λ v. omega (arith, r .2 v, on-search t v, on-search s v))
 
-  -- what these targets open: nodes of the tree, which with those opened before are the ones on paths; and their positions
+  -- what these targets open: nodes which with those opened before are the ones on paths; and their positions
   record LegsGo (ts : List ℕ) (ls : List Leg) (before : ℕ → ℕ) : Type 0 where
-    among : Among (length xs) (opened ls)
     cover : (v : ℕ) → max (min 1 (before v)) (min 1 (occurrences v (opened ls))) ≡ max (min 1 (before v)) (some xs ts v)
     places : positions (length xs) time ls ≡ map (λ t. smaller t xs) ts
 
   no-leg : (before : ℕ → ℕ) → LegsGo [] [] before
-  unfolding opened positions occurrences Among
-  no-leg before = record { among = tt; cover = λ v. rw (some-nil xs v); places = refl }
+  unfolding opened positions occurrences
+  no-leg before = record { cover = λ v. rw (some-nil xs v); places = refl }
 
   next-leg : (l : Leg) (t : ℕ) (ts : List ℕ) {before : ℕ → ℕ} → Among (length xs) (l .nodes) → l .kept ≡ kept-at t
       → ((v : ℕ) → Covers (before v) (on xs t v) (occurrences v (l .nodes))) → LegsGo ts (legsFrom (length xs) time (suc (length xs)) (kept-at t) ts) (on xs t)
       → LegsGo (t ∷ ts) (l ∷ legsFrom (length xs) time (suc (length xs)) (l .kept) ts) before
   unfolding opened positions
   next-leg l t ts {before} a k e later = rw k record {
-    among = among-append (length xs) (l .nodes) _ a (later .among);
     cover = λ v. rw (occurrences-append v (l .nodes) _, some-cons xs t ts v) (covered (before v) (on xs t v) _ _ (some xs ts v) (some-one xs ts v) (e v) (later .cover v));
     places =
         rw (met-none (length xs) time (timeOf xs) fine (position (length xs) (kept-at t)) (l .nodes) a)
@@ -233,7 +256,7 @@ module _ (xs : List ℕ) (time : ℕ → Outcome ℕ) (fine : (v : ℕ) → 1 �
 
     pub sweep-sums : (f : ℕ → ℕ) → sum (map f (sweepNodes (length xs) time ts)) ≡ overDifferent xs ts f
     sweep-sums f =
-        sum-occurrences (length xs) f _ (all-legs ts q .among)
+        sum-occurrences (length xs) f _ (sweep-among (length xs) time ts)
         ∙ sum-same (length xs) (λ v. ap (λ (x : ℕ). x * f v) (sweep-once v) ∙ times (onPath xs ts v) (f v))
       where
         times : (b : Bool) (x : ℕ) → bit b * x ≡ cond b x 0
@@ -242,8 +265,8 @@ module _ (xs : List ℕ) (time : ℕ → Outcome ℕ) (fine : (v : ℕ) → 1 �
 
     pub sweep-answer : sweepAnswer (length xs) time ts ≡ gives (different xs ts)
     sweep-answer =
-        met-none (length xs) time (timeOf xs) fine _ _ (all-legs ts q .among)
-        ∙ ap gives (length-occurrences (length xs) _ (all-legs ts q .among) ∙ sum-same (length xs) sweep-once)
+        met-none (length xs) time (timeOf xs) fine _ _ (sweep-among (length xs) time ts)
+        ∙ ap gives (length-occurrences (length xs) _ (sweep-among (length xs) time ts) ∙ sum-same (length xs) sweep-once)
 
 -- ---- different nodes
 

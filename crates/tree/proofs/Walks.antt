@@ -10,7 +10,7 @@ use lib.ListN.{length}
 use borrow.Author.Tests.{lt-ltb, le-ltb, eq-eqb, ne-eqb}
 use Rattle.tree.specs.Shape.{height, childOf, rank}
 use Rattle.tree.specs.Outcomes.{Outcome, gives, refuses, after, verdict}
-use Rattle.tree.specs.Walks.{walkIn, walk, met, towardFrom}
+use Rattle.tree.specs.Walks.{walkIn, walk, Among, met, towardFrom}
 use Rattle.tree.proofs.Heights.{height-step, height-mono, height-above}
 use Rattle.tree.proofs.Outcomes.{verdict-append, verdict-other, verdict-gives}
 
@@ -113,10 +113,6 @@ module _ (n : ℕ) (stop past past′ : ℕ → Bool) (same : (v : ℕ) → 1 �
   walk-same v h = walkIn-same (suc (height n) - height v) v h
 
 -- ---- the nodes of a walk are among 1 to n
-
-unfoldable pub Among : ℕ → List ℕ → Type 0
-Among n [] = Unit {0}
-Among n (v ∷ vs) = (1 ≤ v) × (v ≤ n) × Among n vs
 
 pub among-append : (n : ℕ) (us vs : List ℕ) → Among n us → Among n vs → Among n (us ++ vs)
 unfolding Among

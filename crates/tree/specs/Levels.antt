@@ -1,9 +1,11 @@
 -- The levels of a tree in the bytes of a strip.
 use mathlib.Core.Path.{_≡_}
+use mathlib.Core.Bool.{true}
 use mathlib.Core.List.{List}
 use Prim.Native.Nat.{ℕ, suc, _+_, _-_, _^_, _≤_, _<_, min}
 use lib.ListN.{length, take, drop, getD}
-use Rattle.codes.specs.Codes.{kindOf, part, Holds}
+use Rattle.codes.specs.declared.kinds.Kind.the-variants.{Chunked}
+use Rattle.codes.specs.Codes.{kindOf, part, isExact, Holds}
 use Rattle.codes.specs.Fetch.{Fetched, fetched}
 use Rattle.tree.specs.declared.nodes.Levels.{Levels}
 use Rattle.tree.specs.Shape.{height}
@@ -36,12 +38,18 @@ fetchedAt at s v =
     let d = levelOf v in
     fetched (codeOf at d) (countOf (at .pins) d) (v - 2 ^ d) (partOf (at .ends) s d)
 
--- the levels lie one after the other in the bytes, each shorter than 2 ^ 32
+-- The levels lie one after the other in the bytes, each shorter than 2 ^ 32. A fixed level's part is exactly as long as its values need, and
+-- no code is refused.
 pub record Fits (at : Levels) (s : List ℕ) : Type 0 where
   pub height-fits : height (at .pins) ≤ 16
   pub in-order : (d : ℕ) → d < height (at .pins) → getD (at .ends) d 0 ≤ getD (at .ends) (d + 1) 0
   pub inside : (d : ℕ) → d < height (at .pins) → getD (at .ends) (d + 1) 0 ≤ length s
   pub short : (d : ℕ) → d < height (at .pins) → getD (at .ends) (d + 1) 0 - getD (at .ends) d 0 < 2 ^ 32
+  pub exact : (d : ℕ) → d < height (at .pins) → isExact (kindOf (codeOf at d)) (countOf (at .pins) d) (length (partOf (at .ends) s d)) ≡ true
+
+-- node v is one of 1 to n, on a chunked level
+abbrev pub OnChunked : Levels → ℕ → Type 0
+OnChunked at v = (1 ≤ v) × (v ≤ at .pins) × ((b : ℕ) × (kindOf (codeOf at (levelOf v)) ≡ Chunked b))
 
 -- of the values in node order, those of a level
 abbrev pub levelValues : List ℕ → ℕ → List ℕ

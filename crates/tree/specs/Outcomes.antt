@@ -3,7 +3,7 @@ use mathlib.Core.Bool.{Bool, cond}
 use mathlib.Core.List.{List, [], _∷_}
 use Prim.Native.Nat.{ℕ}
 
--- a refusal has its number in 01's table, and what it carries
+-- a refusal has its number in 01 or 02, and what it carries
 pub data Outcome (A : Type 0) : Type 0 where
   gives : A → Outcome A
   refuses : ℕ → ℕ → Outcome A
@@ -25,7 +25,7 @@ known o = follow (λ r c. 0) o (λ x. x)
 abbrev pub Test : Type 0
 Test = Outcome (Unit {0})
 
--- a condition of 01's table, with the number and what it carries
+-- a condition of 01 or 02, with the number and what it carries
 unfoldable pub test : Bool → ℕ → ℕ → Test
 test holds r c = cond holds (refuses r c) (gives tt)
 

@@ -1,6 +1,6 @@
 -- What is shown of the tree besides each function's contract. proofs/Promises proves each, as `height-least`, `shape`, `held-reads`,
 -- `different-few`, `access-opens`, `stored-levels`, `listing-finds`, `chosen-stored`, `stored-chosen`, `decoded-chosen`,
--- `zero-marks`, `outcome-laws` and `sweep-rises`.
+-- `zero-marks`, `outcome-laws`, `sweep-rises` and `nine-chunked`.
 use mathlib.Core.Path.{_≡_}
 use mathlib.Core.Logic.{_≢_, _↔_}
 use mathlib.Core.Bool.{Bool, true, false, cond}
@@ -11,12 +11,13 @@ use lib.ListN.{length, getD, replicate}
 use Rattle.codes.specs.Bits.{sum}
 use Rattle.codes.specs.Codes.{part, Within}
 use Rattle.codes.specs.Choice.{chosen}
+use Rattle.codes.specs.Fetch.{outside}
 use Rattle.codes.specs.Decode.{all}
 use Rattle.tree.specs.declared.nodes.Levels.{Levels}
 use Rattle.tree.specs.Shape.{height, sideOf, stretch, rank}
 use Rattle.tree.specs.Lists.{ordered, smaller}
 use Rattle.tree.specs.Stored.{timeOf, storedValues}
-use Rattle.tree.specs.Levels.{levelOf, codeOf, partOf, levelValues, Stores}
+use Rattle.tree.specs.Levels.{countOf, levelOf, codeOf, partOf, fetchedAt, Fits, OnChunked, levelValues, Stores}
 use Rattle.tree.specs.LevelMarks.{LevelMarks}
 use Rattle.tree.specs.declared.walking.Found.{Found}
 use Rattle.tree.specs.Outcomes.{Outcome, gives, refuses, after, verdict}
@@ -24,7 +25,7 @@ use Rattle.tree.specs.Times.{timesIn}
 use Rattle.tree.specs.Listing.{accesses, timesFrom, stopFrom, timesAll, stopAll}
 use Rattle.tree.specs.DecodedLevels.{decodedLevels, Decodes}
 use Rattle.tree.specs.Chosen.{allChosen}
-use Rattle.tree.specs.Walks.{walk, found, toward, accessAnswer, searchNodes, searchAnswer, path, fromRoot}
+use Rattle.tree.specs.Walks.{walk, Among, met, found, toward, accessAnswer, searchNodes, searchAnswer, path, fromRoot}
 use Rattle.tree.specs.Sweeps.{sweepNodes, sweepAnswer, sweepPositions, occurrences, onPath, overDifferent, different}
 
 -- The height is the least number with 2 ^ h - 1 ≥ n.
@@ -94,12 +95,13 @@ pub record AccessOpens : Type 0 where
   pub count : (n : ℕ) (time : ℕ → Outcome ℕ) (i : ℕ) (f : Found) → accessAnswer n time i ≡ gives f → f .nodes ≡ length (toward n i)
   pub small : (levels : Levels) (s : List ℕ) (i : ℕ) (f : Found) → accesses levels s i ≡ gives f → f .value < 2 ^ 32
 
--- 5. There are as many stored values as times, and none has more bits than the times. A level has at most half of them, rounded up;
--- with the nodes above it, at most as many as there are nodes down to it.
+-- 5. There are as many stored values as times, and none has more bits than the times. A level has one for each of its nodes, at most half of
+-- them, rounded up; with the nodes above it, at most as many as there are nodes down to it.
 pub record StoredLevels : Type 0 where
   pub count : (xs : List ℕ) → length (storedValues xs) ≡ length xs
   pub within : (w : ℕ) (xs : List ℕ) → Within w xs → Within w (storedValues xs)
   pub level-within : (w : ℕ) (values : List ℕ) (d : ℕ) → Within w values → Within w (levelValues values d)
+  pub level-count : (values : List ℕ) (d : ℕ) → length (levelValues values d) ≡ countOf (length values) d
   pub half : (values : List ℕ) (d : ℕ) → 2 * length (levelValues values d) ≤ length values + 1
   pub above : (values : List ℕ) (d : ℕ) → min (length values) (2 ^ d - 1) + length (levelValues values d) ≤ min (length values) (2 ^ suc d - 1)
 
@@ -143,3 +145,12 @@ pub record OutcomeLaws : Type 1 where
 abbrev pub SweepRises : Type 0
 SweepRises = (n : ℕ) (time : ℕ → Outcome ℕ) (ts : List ℕ) (i j : ℕ) → let vs = sweepNodes n time ts in
     i < j → j < length vs → levelOf (getD vs i 0) ≡ levelOf (getD vs j 0) → getD vs i 0 < getD vs j 0
+
+-- 13. In levels that fit, no fetch for a node of 1 to n is refused but from a chunked level. So 9, whatever such nodes are opened in whatever
+-- order, carries a node of a chunked level. Every walk down and every sweep opens such nodes.
+pub record NineChunked : Type 1 where
+  pub fetches : (levels : Levels) (s : List ℕ) → Fits levels s → (v : ℕ) → 1 ≤ v → v ≤ levels .pins → fetchedAt levels s v ≡ outside → OnChunked levels v
+  pub carried : {A : Type 0} (levels : Levels) (s vs : List ℕ) → Fits levels s → Among (levels .pins) vs → (a : A) (v : ℕ)
+      → met (timesIn levels s) vs a ≡ refuses 9 v → OnChunked levels v
+  pub walks : (n : ℕ) (stop past : ℕ → Bool) (v : ℕ) → 1 ≤ v → Among n (walk n stop past v)
+  pub sweeps : (n : ℕ) (time : ℕ → Outcome ℕ) (ts : List ℕ) → Among n (sweepNodes n time ts)

@@ -1,7 +1,7 @@
 -- Walks down the tree: the nodes that they open, in order, and what access and search answer by them.
 use mathlib.Core.Bool.{Bool, false, cond}
 use mathlib.Core.List.{List, [], _∷_, map}
-use Prim.Native.Nat.{ℕ, zero, suc, _+_, _-_, _/_}
+use Prim.Native.Nat.{ℕ, zero, suc, _+_, _-_, _/_, _≤_}
 use lib.Dec.{eqb, ltb}
 use lib.ListN.{length}
 use Rattle.tree.specs.declared.walking.Found.{Found}
@@ -23,6 +23,11 @@ walkIn (suc f) n stop past v =
 -- one node on each level from that of v on; `walk-on` in proofs/Walks has the equation without their number
 unfoldable pub walk : ℕ → (ℕ → Bool) → (ℕ → Bool) → ℕ → List ℕ
 walk n stop past v = walkIn (suc (height n) - height v) n stop past v
+
+-- these are nodes of 1 to n
+unfoldable pub Among : ℕ → List ℕ → Type 0
+Among n [] = Unit {0}
+Among n (v ∷ vs) = (1 ≤ v) × (v ≤ n) × Among n vs
 
 -- what comes of opening these nodes in this order: the first refusal of a node's time, or else what is given
 unfoldable pub met : {A : Type 0} → (ℕ → Outcome ℕ) → List ℕ → A → Outcome A

@@ -19,6 +19,7 @@ pub use nodes::GREATEST;
 pub use nodes::Levels;
 pub use nodes::Refusal;
 pub use shape::Ranked;
+pub use shape::count_of;
 pub use shape::height;
 pub use shape::rank;
 pub use shape::root_place;

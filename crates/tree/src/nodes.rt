@@ -1,8 +1,8 @@
 // One node: what it stores on its level, and its time.
+use super::shape::count_of;
 use super::shape::power_of_two;
 use codes::Found;
 use codes::fetch_short;
-use codes::least;
 ghost use mathlib.Core.Path.{_≡_};
 ghost use Prim.Native.Nat.{_^_, _≤_};
 ghost use Rattle.codes.specs.Fetch.{value};
@@ -21,7 +21,7 @@ pub struct Levels {
 
 // Why a walk stops at a node, with the node.
 pub enum Refusal {
-    // Its fetch passes its part, or the value is 2^32 or more.
+    // Its fetch, from a chunked level, passes its part, or the value is 2^32 or more.
     Fetch(usize),
     // Its time would be below 0 or above 4,294,967,295.
     Time(usize),
@@ -83,12 +83,12 @@ pub(crate) fn open_full<'a>(
     let start = ends[depth];
     let end = ends[depth + 1];
     let code = codes[depth];
-    let first = power_of_two(depth);
-    let count = least(n + 1 - first, first);
+    let count = count_of(n, depth);
+    let index = v - power_of_two(depth);
     let room = marks.len() / 16;
     let from = depth * room;
     let to = from + room;
-    let found = codes::fetch(&mut marks[from..to], &s[start..end], code, count, v - first);
+    let found = codes::fetch(&mut marks[from..to], &s[start..end], code, count, index);
     match found {
         Found::Value(d) => time_under(v, above, d),
         Found::Outside => OUTSIDE,

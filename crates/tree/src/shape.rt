@@ -1,7 +1,9 @@
 // The shape of the tree of n pins.
+use codes::least;
 ghost use mathlib.Core.Path.{_≡_};
 ghost use Prim.Native.Nat.{ℕ, _+_, _/_, _^_, _≤_, _<_};
 ghost use Rattle.tree.specs.Shape.{height, rootPlace, sideOf, childOf, stretch, rank, ranked};
+ghost use Rattle.tree.specs.Levels.{countOf};
 ghost use Rattle.tree.specs.Standing.{StretchIs};
 
 // The stretch of the list under a node: where it starts and how many pins it has.
@@ -28,6 +30,15 @@ pub(crate) fn power_of_two(k: usize) -> usize
     ensures { λ r. ⌜ r ≡ 2 ^ k ⌝ }
 {
     1usize << k
+}
+
+// How many of n nodes the level below d others has.
+pub fn count_of(n: usize, d: usize) -> usize
+    requires { ⌜ d < height n ⌝ }
+    ensures { λ r. ⌜ (r ≤ n) × (r ≡ countOf n d) ⌝ }
+{
+    let first = power_of_two(d);
+    least(n - (first - 1), first)
 }
 
 // The root's place in a list of n, counted from 1. An empty list has no root, which 0 says.

@@ -50,8 +50,9 @@
 //!
 //! Every call that reads a strip opens it first. It is refused where the strip is cut short in its first 7 bytes
 //! ([`Cut`](Refusal::Cut)), then by its [`Mark`](Refusal::Mark), its [`Version`](Refusal::Version), a pin count of 0
-//! ([`Empty`](Refusal::Empty)), level entries cut short ([`Cut`](Refusal::Cut)), the first refused
-//! [`Code`](Refusal::Code) of a level, and a wrong [`Length`](Refusal::Length), in this order.
+//! ([`Empty`](Refusal::Empty)), level entries cut short ([`Cut`](Refusal::Cut)), for each level from 1 on a refused
+//! [`Code`](Refusal::Code) and then a wrong [`LevelLength`](Refusal::LevelLength), and a wrong
+//! [`Length`](Refusal::Length), in this order.
 //!
 //! # Reading all positions
 //!

@@ -85,7 +85,7 @@ refusals! {
         /// The first such level, counted from 1.
         level
     } => "level {level} has a refused code";
-    /// A fetch passes its level's part, or its value is 2^32 or more.
+    /// A fetch in a chunked level passes the level's part, or its value is 2^32 or more.
     9 Fetch {
         /// The node fetched.
         node
@@ -113,6 +113,11 @@ refusals! {
         /// The first index with a lower target than the one before.
         index
     } => "the targets fall at index {index}";
+    /// A level in a fixed code has not exactly the fewest bytes for its width and number of values.
+    23 LevelLength {
+        /// The first such level, counted from 1.
+        level
+    } => "level {level} has not exactly the bytes that its values need";
 }
 
 impl Error for Refusal {}

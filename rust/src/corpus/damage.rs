@@ -2,11 +2,12 @@
 
 use super::{Case, Visit};
 use crate::lists::{around_powers, few_pins, rising};
-use crate::parts::{chosen, least_width};
+use crate::parts::least_width;
 use crate::random::Random;
 use crate::reference::strip::{image, PINS};
-use crate::reference::tree::{height, parts_of_values, stored, HEIGHT};
-use crate::strips::{change_bytes, many_levels, packed, set_length, small_strips, Level};
+use crate::reference::tree::{height, nodes_of_level, parts_of_values, stored, HEIGHT};
+use crate::reference::{fewest_bytes, kind, Kind};
+use crate::strips::{change_bytes, chunked_levels, many_levels, packed, set_length, small_strips, Level};
 
 /// Small strips with every change of one byte.
 pub fn every_byte(random: &mut Random, visit: Visit) {
@@ -21,11 +22,16 @@ pub fn every_byte(random: &mut Random, visit: Visit) {
     }
 }
 
-/// Damages the levels of lists of all sorts, in so many rounds.
-fn damaged(rounds: usize, random: &mut Random, visit: Visit, damage: fn(&mut Vec<Level>, usize, &mut Random)) {
+/// Damages the levels that this gives for n pins, in four rounds.
+fn damaged(
+    levels: fn(usize, &mut Random) -> Vec<Vec<Level>>,
+    random: &mut Random,
+    visit: Visit,
+    damage: fn(&mut Vec<Level>, usize, &mut Random),
+) {
     for n in few_pins() {
-        for levels in many_levels(n, random) {
-            for round in 0..rounds {
+        for levels in levels(n, random) {
+            for round in 0..4 {
                 let mut levels = levels.clone();
                 damage(&mut levels, round, random);
                 visit(Case::strip(image(n, &levels)));
@@ -34,9 +40,9 @@ fn damaged(rounds: usize, random: &mut Random, visit: Visit, damage: fn(&mut Vec
     }
 }
 
-/// One part is cut short, or as it was.
+/// One part, of a chunked level, is cut short, or as it was.
 pub fn cut_parts(random: &mut Random, visit: Visit) {
-    damaged(4, random, visit, |levels, round, random| {
+    damaged(chunked_levels, random, visit, |levels, round, random| {
         let level = random.below(levels.len());
         let part = &mut levels[level].1;
         let length = part.len();
@@ -44,23 +50,24 @@ pub fn cut_parts(random: &mut Random, visit: Visit) {
     });
 }
 
-/// One part, or as often every one, is random bytes, somewhat fewer or more.
+/// One part, or as often every one, is random bytes, somewhat fewer or more where it is chunked.
 pub fn random_parts(random: &mut Random, visit: Visit) {
-    damaged(4, random, visit, |levels, round, random| {
+    damaged(many_levels, random, visit, |levels, round, random| {
         let one = random.below(2 * levels.len());
         let all = one >= levels.len();
-        for (level, (_, part)) in levels.iter_mut().enumerate() {
+        for (level, (code, part)) in levels.iter_mut().enumerate() {
             if all || level == one {
-                let length = (part.len() + random.below(6)).saturating_sub(2);
+                let more = if *code > 32 { random.below(6) } else { 2 };
+                let length = (part.len() + more).saturating_sub(2);
                 *part = random.dense_bytes(length, [1, 3, 8, 13][round]);
             }
         }
     });
 }
 
-/// The end of one part, or of every one, lies elsewhere in the bytes of it and the next.
+/// The end of one part, or of every one, lies elsewhere in the bytes of it and the next, which are chunked too.
 pub fn moved_parts(random: &mut Random, visit: Visit) {
-    damaged(4, random, visit, |levels, round, random| {
+    damaged(chunked_levels, random, visit, |levels, round, random| {
         let one = random.below(levels.len());
         for level in 1..levels.len() {
             if round % 2 == 0 || level == one {
@@ -72,14 +79,13 @@ pub fn moved_parts(random: &mut Random, visit: Visit) {
     });
 }
 
-/// One level has another code byte: one on either side of the limits, or any.
+/// One level has another code byte: any chunked one, or as often one on either side of the limits or any.
 pub fn other_code_bytes(random: &mut Random, visit: Visit) {
-    damaged(4, random, visit, |levels, _, random| {
+    damaged(many_levels, random, visit, |levels, round, random| {
         let level = random.below(levels.len());
         let any = random.draw() as u8;
-        let limits = [0, 1, 32, 33, 64, 65, 72, 73, 255];
-        let codes = [&limits[..], &[any % 33, 65 + any % 8, any]].concat();
-        levels[level].0 = codes[random.below(codes.len())];
+        let codes = [0, 1, 32, 33, 64, 65, 72, 73, 255, any % 33, any];
+        levels[level].0 = [65 + any % 8, codes[random.below(codes.len())]][round % 2];
     });
 }
 
@@ -156,9 +162,9 @@ fn damage_level(levels: &mut [Level], round: usize, random: &mut Random) {
     }
 }
 
-/// Long lists with a damaged level, in the chosen codes and in fixed ones, and the longest list with bytes changed.
+/// Long lists with a damaged level, in fixed codes and in chunked ones, and the longest list with bytes changed.
 pub fn damaged_long_lists(random: &mut Random, visit: Visit) {
-    let codes: [fn(usize, &[u32]) -> u8; 2] = [chosen, |_, values| least_width(values)];
+    let codes: [fn(usize, &[u32]) -> u8; 2] = [|_, values| least_width(values), |level, _| 69 + level as u8 % 4];
     for code_for in codes {
         for n in [1000, 6144, 40_000, PINS] {
             let times = rising(n, || random.skewed() & random.of_width(14));
@@ -178,7 +184,7 @@ pub fn damaged_long_lists(random: &mut Random, visit: Visit) {
     }
 }
 
-/// Strips with random codes and short random parts, and often one more fault.
+/// Strips with random codes and short random parts, in fixed codes of the right length, and often one more fault.
 pub fn random_strips(random: &mut Random, visit: Visit) {
     let counts = around_powers(PINS);
     for _ in 0..20_000 {
@@ -193,17 +199,22 @@ fn random_strip(counts: &[usize], random: &mut Random) -> Vec<u8> {
         1 => counts[random.below(counts.len())],
         _ => random.below(20),
     };
-    let mut level = |_| {
+    let mut level = |level| {
+        let count = nodes_of_level(n, level).count();
         let any = random.draw() as u8;
         let code = match random.below(60) {
             0 => any,
-            1..=30 => any % 33,
+            // Of few bits or none where there are many nodes.
+            1..=30 => any % (1 + 512 / count).min(33) as u8,
             _ => 65 + any % 8,
         };
-        let length = random.below(9);
+        let length = match kind(code) {
+            Kind::Fixed(w) => fewest_bytes(w, count),
+            _ => random.below(9),
+        };
         (code, random.bytes(length))
     };
-    let levels: Vec<Level> = (0..height(n)).map(&mut level).collect();
+    let levels: Vec<Level> = (1..=height(n)).map(&mut level).collect();
     let mut strip = image(n, &levels);
     let (length, h) = (strip.len(), levels.len());
     match random.below(12) {

@@ -6,7 +6,7 @@ use crate::parts::{any_code, chosen, chunks, set_bit};
 use crate::random::Random;
 use crate::reference::strip::{image, PINS};
 use crate::reference::tree::{nodes_of_level, stored, HEIGHT};
-use crate::strips::{most_stored, refused_at, strip_of_values, with_chunks, with_value, zeros};
+use crate::strips::{most_stored, refused_at, strip_of_values, with_chunks, with_value, zeros, Level};
 
 /// A node of some list has these chunks, of b bits, which make 2^32 or more or do not.
 fn with_number(n: usize, chain: Vec<u32>, b: u32, past: bool, random: &mut Random) -> Case {
@@ -62,26 +62,38 @@ pub fn refused_nodes(random: &mut Random, visit: Visit) {
     }
 }
 
-/// In the longest list, one level has no part or lacks its last byte, or a node of it, at the level's ends or in its
-/// middle, passes an end of the times.
+/// So many bytes of zeros, but for this bit.
+fn one_bit(length: usize, place: usize) -> Vec<u8> {
+    let mut bytes = vec![0; length];
+    bytes[place / 8] = 0x80 >> (place % 8);
+    bytes
+}
+
+/// In the longest list, one level is in chunks and has no part or lacks its last byte, or a node of it, at the level's
+/// ends or in its middle, lacks a chunk or passes an end of the times.
 pub fn refused_at_every_level(_: &mut Random, visit: Visit) {
     let zeros = zeros();
     for level in 1..=HEIGHT {
-        let (first, last) = nodes_of_level(PINS, level).into_inner();
-        let mut with = |root: u8, change: &dyn Fn(&mut Vec<u8>), number, carried| {
+        let nodes = nodes_of_level(PINS, level);
+        let (first, count) = (*nodes.start(), nodes.count());
+        let mut with = |root: u8, other: Level, number, carried| {
             let mut levels = zeros.clone();
             levels[0] = (32, vec![root; 4]);
-            change(&mut levels[level - 1].1);
+            levels[level - 1] = other;
             visit(Case::refused(image(PINS, &levels), number, carried));
         };
-        with(0, &|part| part.clear(), 9, first);
+        // A chunk of seven bits and its continuation bit take a byte, so that nothing follows the first layer.
+        with(0, (71, Vec::new()), 9, first);
+        with(0, (71, vec![0; count - 1]), 9, first);
+        for index in [0, count / 2, count - 1] {
+            with(0, (71, one_bit(count, index)), 9, first + index);
+        }
         if level > 1 {
-            with(0, &|part| _ = part.pop(), 9, first.max(last.saturating_sub(7)));
-            with(0, &|part| part[0] |= 0x80, 10, first);
+            let one = |index| (1, one_bit(count.div_ceil(8), index));
+            with(0, one(0), 10, first);
             // A right child: the first right of the root, and the last.
-            for index in [1 << (level - 2) | 1, last - first] {
-                let change = |part: &mut Vec<u8>| part[index / 8] |= 0x80 >> (index % 8);
-                with(0xFF, &change, 10, first + index);
+            for index in [1 << (level - 2) | 1, count - 1] {
+                with(0xFF, one(index), 10, first + index);
             }
         }
     }

@@ -4,12 +4,13 @@ use super::{Case, Visit};
 use crate::lists::{few_pins, rising};
 use crate::random::Random;
 use crate::reference::strip::{image, PINS};
-use crate::reference::tree::{height, HEIGHT};
-use crate::strips::{example, many_levels, packed, set_length, zeros, A, TIMES_A};
+use crate::reference::tree::{height, stored, HEIGHT};
+use crate::strips::{example, many_levels, set_length, strip_of_values, zeros, A, TIMES_A};
 
 /// The marked strips, and those that are examples of refusals.
 pub fn examples(_: &mut Random, visit: Visit) {
-    for (number, carried) in [(1, 0), (5, 0), (6, 0), (7, 0), (8, 1), (9, 1), (10, 2), (11, 3), (12, 0), (13, 0)] {
+    let refusals = [(1, 0), (5, 0), (6, 0), (7, 0), (8, 1), (9, 1), (10, 2), (11, 3), (12, 0), (13, 0), (23, 1)];
+    for (number, carried) in refusals {
         visit(Case::refused(example(number), number, carried));
     }
     visit(Case::refused(Vec::new(), 5, 0));
@@ -36,10 +37,11 @@ pub fn cuts_and_bytes_added(random: &mut Random, visit: Visit) {
     }
 }
 
-/// The sum of the lengths would be right if it were kept in 32 bits.
+/// The sum of the lengths, all of chunked levels, would be right if it were kept in 32 bits.
 pub fn wrapping_lengths(random: &mut Random, visit: Visit) {
     for n in few_pins().chain([1000, 40_000, PINS]).filter(|&n| n > 1) {
-        let strip = packed(&rising(n, || random.of_width(3)));
+        let times = rising(n, || random.of_width(3));
+        let strip = strip_of_values(&stored(&times), |level, _| 65 + level as u8 % 8);
         let h = height(n);
         let parts = (strip.len() - 7 - 5 * h) as u32;
         let mut with = |length: &dyn Fn(usize) -> u32| {
@@ -64,14 +66,53 @@ pub fn wrapping_lengths(random: &mut Random, visit: Visit) {
     }
 }
 
+/// A fixed level has a byte or many too few or too many. Its part is so long, or its entry alone says so.
+pub fn wrong_lengths(random: &mut Random, visit: Visit) {
+    for n in few_pins() {
+        for levels in many_levels(n, random) {
+            for i in (0..levels.len()).filter(|&i| levels[i].0 <= 32) {
+                let length = levels[i].1.len();
+                let others = [0, length / 2, length.saturating_sub(1), length + 1, length + 2 + random.below(300)];
+                for other in others.into_iter().filter(|&other| other != length) {
+                    let (mut said, mut levels) = (image(n, &levels), levels.clone());
+                    set_length(&mut said, i + 1, other as u32);
+                    visit(Case::refused(said, 23, i + 1));
+                    levels[i].1.resize(other, random.draw() as u8);
+                    visit(Case::refused(image(n, &levels), 23, i + 1));
+                }
+            }
+        }
+    }
+}
+
+/// In the longest list, one bit differs in the lengths of a level and of the later ones. Then some level's code is
+/// refused too, and is told where it is tested for first.
+pub fn wrong_lengths_at_every_level(random: &mut Random, visit: Visit) {
+    let (zeros, entry) = (image(PINS, &zeros()), |level: usize| 7 + 5 * (level - 1));
+    for level in 1..=HEIGHT {
+        for bit in 0..32 {
+            let mut strip = zeros.clone();
+            (level..=HEIGHT).for_each(|level| strip[entry(level) + 1 + bit / 8] ^= 0x80 >> (bit % 8));
+            visit(Case::refused(strip.clone(), 23, level));
+            let other = 1 + random.below(HEIGHT);
+            strip[entry(other)] = 33;
+            let (number, carried) = if other <= level { (8, other) } else { (23, level) };
+            visit(Case::refused(strip, number, carried));
+        }
+    }
+}
+
 /// What is done to a strip, and the refusal that it leads to.
 type Fault = (fn(&mut Vec<u8>), usize, usize);
 
 /// Faults of A, those that are tested for later first.
-const FAULTS: [Fault; 9] = [
+const FAULTS: [Fault; 12] = [
     (|strip| strip.push(0), 13, 0),
-    (|strip| strip[8..12].fill(0xFF), 13, 0),
+    (|strip| strip[18..22].fill(0xFF), 13, 0),
     (|strip| strip[17] = 73, 8, 3),
+    (|strip| strip[13..17].fill(0xFF), 23, 2),
+    (|strip| strip[12] = 64, 8, 2),
+    (|strip| strip[11] = 1, 23, 1),
     (|strip| strip[7] = 33, 8, 1),
     (|strip| strip.truncate(21), 5, 0),
     (|strip| strip[5..7].fill(0), 1, 0),

@@ -28,7 +28,7 @@ pub fn long_lists(random: &mut Random, visit: Visit) {
     visit(Case::packed(rising(PINS, || random.skewed() & random.of_width(17))));
 }
 
-/// In any codes, and with bytes after the values too.
+/// In any codes, and with bytes after the values of chunked levels too.
 pub fn other_codes(random: &mut Random, visit: Visit) {
     for n in (1..=60).chain([300, 1000, PINS]) {
         let count = if n <= 20 { usize::MAX } else { 2 };
@@ -69,10 +69,13 @@ pub fn every_code_of_a_level(random: &mut Random, visit: Visit) {
     });
 }
 
-/// Each padding bit, and bytes more.
+/// Each padding bit, and bytes more where the level is chunked.
 pub fn bits_after_the_values(random: &mut Random, visit: Visit) {
     other_levels(3, random, visit, |values, (code, part), random| {
-        let mut parts = vec![[&part[..], &[0]].concat(), [&part[..], &random.bytes(2)].concat()];
+        let mut parts = Vec::new();
+        if *code > 32 {
+            parts.extend([&[0], &random.bytes(2)[..]].map(|more| [part, more].concat()));
+        }
         for bit in 0..part.len() as u64 * 8 - choose(values).1 {
             let mut part = part.clone();
             *part.last_mut().expect("a byte") |= 1 << bit;

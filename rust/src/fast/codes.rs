@@ -78,7 +78,7 @@ pub fn encode(values: &mut [u32], free: &mut [u32], code: u8, out: &mut [u8]) {
 /// than any needs.
 pub fn decode(strip: &[u8], level: Level, values: &mut [u32]) -> Option<usize> {
     match level.code {
-        0..=32 => fixed::decode(strip, level, values),
+        0..=32 => Some(fixed::decode(strip, level, values)),
         _ => chunked::decode(strip, level, values),
     }
 }
@@ -87,7 +87,7 @@ pub fn decode(strip: &[u8], level: Level, values: &mut [u32]) -> Option<usize> {
 #[inline(always)]
 pub fn fetch(strip: &[u8], level: Level, count: usize, index: usize) -> Option<u32> {
     match level.code {
-        0..=32 => fixed::fetch(strip, level, index),
+        0..=32 => Some(fixed::fetch(strip, level, index)),
         _ => chunked::fetch(strip, level, count, index),
     }
 }

@@ -24,25 +24,17 @@ pub fn encode(values: &[u32], width: u8, out: &mut [u8]) {
     ENCODERS[usize::from(width)](values, out);
 }
 
-/// The level's values, and the bits that they take, or none where they pass the part.
-pub fn decode(strip: &[u8], level: Level, values: &mut [u32]) -> Option<usize> {
-    let bits = values.len() * usize::from(level.code);
-    if bits > level.bits() {
-        return None;
-    }
+/// The level's values, and the bits that they take. Opening has found these in the part.
+pub fn decode(strip: &[u8], level: Level, values: &mut [u32]) -> usize {
     DECODERS[usize::from(level.code)](strip, level.from, values);
-    Some(bits)
+    values.len() * usize::from(level.code)
 }
 
-/// The value at this index, or none where it passes the part.
+/// The value at this index.
 #[inline(always)]
-pub fn fetch(strip: &[u8], level: Level, index: usize) -> Option<u32> {
+pub fn fetch(strip: &[u8], level: Level, index: usize) -> u32 {
     let width = usize::from(level.code);
-    let end = (index + 1) * width;
-    if end > level.bits() {
-        return None;
-    }
-    Some(value_before(strip, 8 * level.from + end, width))
+    value_before(strip, 8 * level.from + (index + 1) * width, width)
 }
 
 #[inline(always)]

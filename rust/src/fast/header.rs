@@ -20,12 +20,6 @@ pub struct Level {
 }
 
 impl Level {
-    /// The bits of the part.
-    #[inline(always)]
-    pub fn bits(self) -> usize {
-        8 * (self.to - self.from)
-    }
-
     /// A chunked code's b.
     #[inline(always)]
     pub fn chunk_bits(self) -> usize {
@@ -82,8 +76,12 @@ pub fn open(strip: &[u8]) -> Result<Header, Refusal> {
             return Err(refusal(8, depth + 1));
         }
         codes[depth] = code;
+        let length = u32::from_be_bytes([entry[1], entry[2], entry[3], entry[4]]) as usize;
+        if code <= 32 && length != (usize::from(code) * shape.count(depth)).div_ceil(8) {
+            return Err(refusal(23, depth + 1));
+        }
         // At most 16 lengths of 32 bits, so no overflow in 64.
-        end += u32::from_be_bytes([entry[1], entry[2], entry[3], entry[4]]) as usize;
+        end += length;
         ends[depth + 1] = end;
     }
     if end != strip.len() {

@@ -1,8 +1,8 @@
-//! The scope's strip and the calls on it. Slow on purpose: each function follows the scope's sentences and nothing
-//! else.
+//! The scope's strip and the calls on it. Slow on purpose: each function follows the sentences of the scope and of the
+//! change requests, and nothing else.
 
-use super::tree::{self, height, parts_of_values, stored, Levels};
-use super::{choose, kind, Kind};
+use super::tree::{self, height, nodes_of_level, parts_of_values, stored, Levels};
+use super::{choose, fewest_bytes, kind, Kind};
 
 /// "The greatest pin count, 65,535".
 pub const PINS: usize = 65_535;
@@ -77,7 +77,7 @@ pub fn pack(times: &[u32], room: usize) -> Result<Vec<u8>, Refusal> {
 }
 
 /// "Opening, done first by every reading call, tests in this order: 5 (under 7 bytes), 6, 7, 1, 5 (under 7 + 5h), 8
-/// from level 1 on, 13."
+/// from level 1 on, 13." Ticket 12 has added 23.
 fn open(strip: &[u8]) -> Result<Levels<'_>, Refusal> {
     // 5: "strip cut short".
     if strip.len() < 7 {
@@ -100,21 +100,29 @@ fn open(strip: &[u8]) -> Result<Levels<'_>, Refusal> {
     if strip.len() < 7 + 5 * h {
         return refused(5, 0);
     }
-    Ok(Levels { pins: n, parts: parts(strip, h)? })
+    Ok(Levels { pins: n, parts: parts(strip, n)? })
 }
 
-/// Each level's code and part: "8 from level 1 on, 13".
-fn parts(strip: &[u8], h: usize) -> Result<Vec<(u8, &[u8])>, Refusal> {
+/// Each level's code and part: "8 from level 1 on, 13", and 23 "directly after that level's code has passed 8 and
+/// before the next level's code".
+fn parts(strip: &[u8], n: usize) -> Result<Vec<(u8, &[u8])>, Refusal> {
+    let h = height(n);
     // Level L's five bytes begin here.
     let entry = |level: usize| 7 + 5 * (level - 1);
-    // 8: "level code", with the level.
+    let length = |level: usize| number(&strip[entry(level) + 1..entry(level) + 5]);
     for level in 1..=h {
-        if kind(strip[entry(level)]) == Kind::Refused {
+        let (kind, count) = (kind(strip[entry(level)]), nodes_of_level(n, level).count());
+        // 8: "level code", with the level.
+        if kind == Kind::Refused {
             return refused(8, level);
+        }
+        // 23: "Opening must test that each fixed level has exactly the fewest bytes for its width and number of values",
+        // "carrying the level".
+        if matches!(kind, Kind::Fixed(w) if length(level) != fewest_bytes(w, count)) {
+            return refused(23, level);
         }
     }
     // 13: "length not 7 + 5h + parts". The sum is wide, so that no lengths make it overflow.
-    let length = |level: usize| number(&strip[entry(level) + 1..entry(level) + 5]);
     let sum: u128 = (1..=h).map(|level| length(level) as u128).sum();
     if strip.len() as u128 != (7 + 5 * h) as u128 + sum {
         return refused(13, 0);

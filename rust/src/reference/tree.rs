@@ -137,7 +137,7 @@ fn fetch_node(levels: &Levels, v: usize) -> Result<u32, Refusal> {
     let nodes = nodes_of_level(levels.pins, level);
     let index = v - nodes.start();
     let (code, part) = levels.parts[level - 1];
-    // 9: "fetch passes its part, or its value is 2^32 or more".
+    // 9: "fetch passes its part, or its value is 2^32 or more", in a chunked level.
     fetch(part, code, nodes.count(), index).map_or(refused(9, v), Ok)
 }
 

@@ -1,4 +1,4 @@
--- `number` and `carried` give 01's number and what the refusal carries, which stand in the answer.
+-- `number` and `carried` give the number and what the refusal carries, which stand in the answer.
 use borrow.Author.Needs.{needs}
 use Rattle.strip_c.proofs.refused.Statement.{statement}
 use Rattle.strip_c.proofs.refused.Tie as tie

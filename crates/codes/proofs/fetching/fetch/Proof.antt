@@ -15,7 +15,9 @@ enum-known-kind c = search needs
 
 fetch-fixed-requires : tie.Need-fetch-fixed-requires
 fetch-fixed-requires c κs =
-    let k = kind-told _ _ (sym (c .before .before .before .kind-of .ensures) ∙ c .before .kind .given .1) in
+    let e = sym (c .before .before .before .kind-of .ensures) ∙ c .before .kind .given .1 in
+    let k = kind-told _ _ e in
+    let inside = rw e at (c .before .before .before .before .before .before .pre .3) in
     omega arith
 
 enum-known-kind-2 : tie.Need-enum-known-kind-2

@@ -6,6 +6,7 @@ use Rattle.strip.specs.Layout.{pinsOf}
 use Rattle.strip.specs.Opening.{headerTests, levelTests, levelsIn}
 use Rattle.strip.specs.Opened.{headerOutcome}
 use Rattle.strip.proofs.Openings.{opening-steps}
+use Rattle.strip.proofs.OpenStrips.{fits-open}
 use borrow.Author.Needs.{needs}
 use Rattle.strip.proofs.opening.opening_of.Statement.{statement}
 use Rattle.strip.proofs.opening.opening_of.Tie as tie
@@ -30,7 +31,8 @@ returns c =
     let s = c .before .before .before .before .before .before .args .s .now in
     let e : verdict (headerTests s) (pinsOf s) ≡ gives (c .before .before .header .given .0 .0) =
     sym (c .before .before .before .before .header-of .ensures .0) ∙ ap headerOutcome (c .before .before .header .given .1) in
-    (c .levels-of .ensures .0 ∙ sym (opening-steps s ∙ ap (λ (o : Outcome ℕ). after o (λ _. verdict (levelTests s) (levelsIn s))) e), c .levels-of .ensures .1)
+    let is = c .levels-of .ensures ∙ sym (opening-steps s ∙ ap (λ (o : Outcome ℕ). after o (λ _. verdict (levelTests s) (levelsIn s))) e) in
+    (is, fits-open s (λ j. c .before .before .before .before .before .shared-slice-known .given j .fits) (c .levels-of .result) is)
 
 returns-2 : tie.Need-returns-2
 returns-2 c =

@@ -12,8 +12,9 @@ use Rattle.tree.specs.Levels.{levelsOf, fetchedAt}
 use Rattle.tree.specs.LevelMarks.{LevelMarks}
 use Rattle.tree.specs.Outcomes.{gives}
 use Rattle.tree.specs.Times.{under}
+use Rattle.tree.proofs.Heights.{height-above}
 use Rattle.tree.proofs.LevelMarks.{marks-room, marks-lent, marks-back}
-use Rattle.tree.proofs.NodeFetches.{fetched-from, Level, level-fits, index-below, part-short}
+use Rattle.tree.proofs.NodeFetches.{fetched-from, Level, level-fits, index-below, part-short, node-inside}
 use borrow.Author.Needs.{needs}
 use Rattle.tree.proofs.nodes.open_full.Statement.{statement}
 use Rattle.tree.proofs.nodes.open_full.Tie as tie
@@ -37,8 +38,8 @@ node-fetch : (c : tie.After-fetch) → let s = start c in fetchedAt (levels s) (
 node-fetch c =
     let s = start c in
     let p = s .pre in
-    fetched-from (levels s) (s .args .s .now) (s .args .depth) (s .args .v) _ (c .before .before .before .before .power-of-two .ensures) (p .low) (p .high)
-    ∙ sym (rw (c .before .before .before .least .ensures) at (c .fetch .ensures .0))
+    fetched-from (levels s) (s .args .s .now) (s .args .depth) (s .args .v) _ (c .before .before .before .power-of-two .ensures) (p .low) (p .high)
+    ∙ sym (rw (c .before .before .before .before .count-of .ensures .1) at (c .fetch .ensures .0))
 
 mul-start : tie.Need-mul-start
 mul-start c = omega (arith, level (c .before .before))
@@ -58,17 +59,16 @@ element-copy-out-end c = omega (arith, level (c .before .before .before))
 element-copy-out-code : tie.Need-element-copy-out-code
 element-copy-out-code c = omega (arith, level (c .before .before .before .before))
 
+count-of-requires : tie.Need-count-of-requires
+count-of-requires c κs =
+    let s = c .before .before .before .before .before in
+    height-above (s .args .n) (s .args .depth) (omega arith)
+
 power-of-two-requires : tie.Need-power-of-two-requires
-power-of-two-requires c κs = omega (arith, level (c .before .before .before .before .before))
+power-of-two-requires c κs = omega (arith, level (c .before .before .before .before .before .before))
 
-add-least : tie.Need-add-least
-add-least c = omega (arith, level (c .before .before .before .before .before .before))
-
-sub-least : tie.Need-sub-least
-sub-least c = omega arith
-
-least-requires : tie.Need-least-requires
-least-requires c κs = tt
+sub-index : tie.Need-sub-index
+sub-index c = omega arith
 
 mul-from : tie.Need-mul-from
 mul-from c = omega (arith, room (c .before .before .before .before .before .before .before))
@@ -97,17 +97,16 @@ part-fetch-start-2 c = omega (arith, level (c .before .before .before .before .b
 part-fetch-end-2 : tie.Need-part-fetch-end-2
 part-fetch-end-2 c = omega (arith, level (c .before .before .before .before .before .before .before .before))
 
-sub-fetch-3 : tie.Need-sub-fetch-3
-sub-fetch-3 c = omega arith
-
 fetch-requires : tie.Need-fetch-requires
 fetch-requires c κs =
     let s = c .before .before .before .before .before .before .before .before .before in
     let a = s .args in
-    let p = s .pre in (
-      index-below (a .n) (a .depth) (a .v) _ _ (c .before .before .before .power-of-two .ensures) (p .low) (p .high) (p .among) (c .before .before .least .ensures),
+    let p = s .pre in
+    let below = index-below (a .n) (a .depth) (a .v) _ (c .before .before .power-of-two .ensures) (p .low) (p .high) (p .among) in (
+      rw (c .before .before .before .count-of .ensures .1) below,
       part-short (level s),
       marks-lent (s .pre .marks) (a .depth) (level s .deep),
+      node-inside (level s) _ below,
     )
 
 -- the marks after it are as many, and true
@@ -163,10 +162,9 @@ open-full-spec =
     mul-end
     element-copy-out-end
     element-copy-out-code
+    count-of-requires
     power-of-two-requires
-    add-least
-    sub-least
-    least-requires
+    sub-index
     mul-from
     add-to
     mul-fetch
@@ -176,7 +174,6 @@ open-full-spec =
     sub-fetch-2
     part-fetch-start-2
     part-fetch-end-2
-    sub-fetch-3
     fetch-requires
     enum-known-found
     time-under-requires
