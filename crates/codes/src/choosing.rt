@@ -7,7 +7,7 @@ ghost use Rattle.codes.specs.Measure.{Measured};
 use super::measuring::measure;
 
 // A code with its size in bits.
-#[derive(Drop)]
+#[derive(Clone, Copy)]
 pub struct Choice {
     pub code: u8,
     pub size: usize,

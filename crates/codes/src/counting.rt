@@ -44,7 +44,7 @@ fn ones_word(part: &[u8], first: usize) -> u64
 }
 
 // In each place the sum of three bits: its low bit in `ones`, its high bit in `twos`.
-#[derive(Drop)]
+#[derive(Clone, Copy)]
 struct Sum {
     ones: u64,
     twos: u64,

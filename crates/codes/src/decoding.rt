@@ -113,7 +113,7 @@ fn all_small(values: &[u32], n: usize, b: usize) -> bool
 }
 
 // A group of a layer: the layer begins at bit `at` and has `n` values, of which these are the `k` from value `from` on.
-#[derive(Drop)]
+#[derive(Clone, Copy)]
 struct Span {
     at: usize,
     n: usize,

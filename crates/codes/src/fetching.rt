@@ -11,7 +11,7 @@ use super::marking::{Mark, count_on};
 use super::reading::{least, read, read_short};
 
 // What a fetch finds: a value, or that a chunked one passes its part or is 2^32 or more.
-#[derive(Drop)]
+#[derive(Clone, Copy)]
 pub enum Found {
     Value(u32),
     Outside,
@@ -21,7 +21,7 @@ pub enum Found {
 const LIMIT: u64 = 4294967296;
 
 // A layer of a chunked level: the bit where it begins, how many values it has, and which of them is fetched.
-#[derive(Drop)]
+#[derive(Clone, Copy)]
 struct Layer {
     at: usize,
     count: usize,

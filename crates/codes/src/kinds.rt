@@ -3,7 +3,7 @@ ghost use Rattle.std.specs.Prelude.{◌≡◌};
 ghost use Rattle.codes.specs.Codes.{kind_of};
 
 // Codes 0 to 32 are fixed widths in bits, codes 65 to 72 chunked with 1 to 8 bits; all others are refused.
-#[derive(Drop)]
+#[derive(Clone, Copy)]
 pub enum Kind {
     Fixed(usize),
     Chunked(usize),

@@ -9,7 +9,7 @@ use super::reading::least;
 use super::writing::{Writer, put, wide_value};
 
 // The width of a chunk, and 2 to its power.
-#[derive(Drop)]
+#[derive(Clone, Copy)]
 pub(crate) struct Radix {
     pub(crate) bits: usize,
     pub(crate) power: u64,
@@ -79,7 +79,7 @@ fn put_continuations(
 }
 
 // The number that chunks spell, and how many values in front go on in the next layer.
-#[derive(Drop)]
+#[derive(Clone, Copy)]
 struct Group {
     joined: u64,
     left: usize,
@@ -112,7 +112,7 @@ fn joined_chunks(values: &mut [u32], from: usize, n: usize, radix: Radix, left: 
 }
 
 // A writer, and how many values go on in the next layer.
-#[derive(Drop)]
+#[derive(Clone, Copy)]
 struct Chunks {
     writer: Writer,
     left: usize,

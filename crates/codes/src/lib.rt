@@ -1,4 +1,7 @@
 // Level codes: the values of one level and the bytes of its part.
+
+#![tactic(auto)]
+
 mod choosing; // the code with fewest bits
 mod comparing; // whether a part is what pack writes
 mod counting; // bits of a part that are 1, by words

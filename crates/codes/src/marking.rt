@@ -6,7 +6,7 @@ ghost use Rattle.codes.specs.Marks.{Counted, Marks};
 use super::counting::count_ones;
 
 // Of the bits from `from` up to `to`, `ones` are 1.
-#[derive(Drop)]
+#[derive(Clone, Copy)]
 pub(crate) struct Mark {
     pub(crate) from: usize,
     pub(crate) to: usize,

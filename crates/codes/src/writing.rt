@@ -4,7 +4,7 @@ ghost use Rattle.codes.specs.Bits.{bits, padded, bytes_for};
 ghost use Rattle.codes.specs.Written.{written, Wrote};
 
 // Where the next bit goes: `at` whole bytes are written, and the `have` lowest bits of `acc` wait for theirs.
-#[derive(Drop)]
+#[derive(Clone, Copy)]
 pub(crate) struct Writer {
     pub(crate) at: usize,
     pub(crate) have: usize,

@@ -9,7 +9,7 @@ ghost use Rattle.pinlist.specs.Texts.{numeral, header, line, lines_from, most_in
 use strip::{Strip, Walked};
 
 // So many lines at the front of the text, and where they end.
-#[derive(Drop)]
+#[derive(Clone, Copy)]
 pub(crate) struct Piece {
     pub(crate) lines: usize,
     pub(crate) end: usize,

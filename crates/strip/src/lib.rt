@@ -1,4 +1,7 @@
 // Pin strips: their bytes, and the calls on them.
+
+#![tactic(auto)]
+
 mod layout; // where levels lie
 mod lists; // lists of times
 mod numbers; // numbers of several bytes
@@ -11,7 +14,7 @@ mod sweeping; // sweep of an open strip
 mod walker; // the pin walker
 mod writing; // the image's bytes
 
-pub use refusals::Refusal;
+pub use refusals::{Refusal, carried, number};
 pub use strip::{Checked, Packed, Repeated, Strip, Swept, Walked};
 pub use tree::{Found, Ranked};
 pub use walker::{Moved, Stepped, Walker};

@@ -12,21 +12,21 @@ use codes::Kind;
 use tree::Levels;
 
 // Whether a strip is open.
-#[derive(Drop)]
+#[derive(Clone, Copy)]
 pub(crate) enum Status {
     Open,
     Refused(Refusal),
 }
 
 // A strip's levels, which mean something where it is open.
-#[derive(Drop)]
+#[derive(Clone, Copy)]
 pub(crate) struct Opening {
     pub(crate) status: Status,
     pub(crate) levels: Levels,
 }
 
 // The pin count, where the header and the level entries lie whole in the strip.
-#[derive(Drop)]
+#[derive(Clone, Copy)]
 enum Header {
     Pins(usize),
     Refused(Refusal),

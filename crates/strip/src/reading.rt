@@ -14,7 +14,7 @@ use super::strip::Strip;
 use tree::{Levels, Listed};
 
 // What is asked of the times of a strip.
-#[derive(Drop)]
+#[derive(Clone, Copy)]
 pub(crate) enum Asked {
     Check,
     Unpack,
@@ -22,7 +22,7 @@ pub(crate) enum Asked {
 }
 
 // What is told: a number, which is the pin count, or the position that repeat finds; none; or a refusal.
-#[derive(Drop)]
+#[derive(Clone, Copy)]
 pub(crate) enum Told {
     Number(usize),
     None,

@@ -16,25 +16,25 @@ use super::sweeping::sweep_open;
 use super::walker::{Moved, Stepped};
 use tree::{Found, GREATEST, Levels, Ranked};
 
-#[derive(Drop)]
+#[derive(Clone, Copy)]
 pub struct Strip {}
 
 // The image's length in bytes.
-#[derive(Drop)]
+#[derive(Clone, Copy)]
 pub enum Packed {
     Length(usize),
     Refused(Refusal),
 }
 
 // The pin count, which check and unpack give.
-#[derive(Drop)]
+#[derive(Clone, Copy)]
 pub enum Checked {
     Pins(usize),
     Refused(Refusal),
 }
 
 // The first position whose time is too soon after the one before, or none.
-#[derive(Drop)]
+#[derive(Clone, Copy)]
 pub enum Repeated {
     First(usize),
     None,
@@ -42,14 +42,14 @@ pub enum Repeated {
 }
 
 // The time at a position, the position that a search finds, or the number of strikes that up_to counts, with the nodes opened.
-#[derive(Drop)]
+#[derive(Clone, Copy)]
 pub enum Walked {
     Found(Found),
     Refused(Refusal),
 }
 
 // The nodes that a sweep opens in all.
-#[derive(Drop)]
+#[derive(Clone, Copy)]
 pub enum Swept {
     Nodes(usize),
     Refused(Refusal),

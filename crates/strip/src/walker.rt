@@ -7,7 +7,7 @@ use super::strip::Strip;
 use tree::Found;
 
 // The time at the next position, with the nodes opened, or the end.
-#[derive(Drop)]
+#[derive(Clone, Copy)]
 pub enum Stepped {
     Found(Found),
     End,
@@ -15,14 +15,14 @@ pub enum Stepped {
 }
 
 // What a step says, and the next position after it.
-#[derive(Drop)]
+#[derive(Clone, Copy)]
 pub struct Moved {
     pub step: Stepped,
     pub next: usize,
 }
 
 // The strip that is walked, and the next position, which may be set to any number.
-#[derive(Drop)]
+#[derive(Clone, Copy)]
 pub struct Walker<'a> {
     pub strip: &'a [u8],
     pub next: usize,

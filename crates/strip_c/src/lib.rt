@@ -1,5 +1,6 @@
 // The calls on strips for programs in other languages, on numbers and slices. include/gemcotton.h declares them.
-mod refusals; // a refusal as two numbers
+
+#![tactic(auto)]
 
 ghost use Rattle.std.specs.Prelude.{◌≡◌, length};
 ghost use Rattle.tree.specs.Shape.{height, root_place, ranked};
@@ -7,12 +8,11 @@ ghost use Rattle.strip.specs.Refusals.{refusal_number, carried as carried_by};
 ghost use Rattle.strip.specs.Calls.{pack_of, pack_output, access_of, search_of, walked, up_to_of, sweep_of, sweep_output, check_of, checked, unpack_of, unpack_output, repeat_of, step_of, next_of};
 ghost use Rattle.strip_c.specs.Numbers.{given as given_by, refused as refused_by, of_walk, of_number, of_sweep, of_repeat, of_step, position_or};
 
-pub use refusals::{carried, number};
-use strip::{Checked, Packed, Ranked, Refusal, Repeated, Stepped, Strip, Swept, Walked};
+use strip::{Checked, Packed, Ranked, Refusal, Repeated, Stepped, Strip, Swept, Walked, carried, number};
 
 // 0, what is given and the nodes opened; or the number of a refusal, what it carries and 0.
 #[repr(C)]
-#[derive(Drop)]
+#[derive(Clone, Copy)]
 pub struct Answer {
     pub refusal: usize,
     pub value: usize,

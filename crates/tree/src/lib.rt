@@ -1,4 +1,7 @@
 // The difference tree: the shape of the heap, its construction, and the walks over its levels.
+
+#![tactic(auto)]
+
 mod building; // the stored values of a list, in node order
 mod decoding; // what all nodes store, in node order
 mod listing; // the times at all positions

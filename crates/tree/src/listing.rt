@@ -12,7 +12,7 @@ use super::nodes::{LIMIT, Levels, Refusal, open_full, refusal_of};
 use super::shape::root_place;
 
 // Whether every position has a time.
-#[derive(Drop)]
+#[derive(Clone, Copy)]
 pub enum Listed {
     All,
     // The first position at which access is refused, and why.
@@ -79,7 +79,7 @@ fn list_under(
 }
 
 // A listing, and whether all levels were decoded for it.
-#[derive(Drop)]
+#[derive(Clone, Copy)]
 pub struct Listing {
     pub listed: Listed,
     pub decoded: bool,

@@ -11,7 +11,7 @@ use codes::{Found, fetch_short};
 
 // The pin count, each level's code byte and each level's end. Entry 0 of the ends is where the first level starts; so the part
 // of the level below d others is the strip's bytes from entry d up to entry d + 1.
-#[derive(Drop)]
+#[derive(Clone, Copy)]
 pub struct Levels {
     pub pins: usize,
     pub codes: [u8; 16],
@@ -19,7 +19,7 @@ pub struct Levels {
 }
 
 // Why a walk stops at a node, with the node.
-#[derive(Drop)]
+#[derive(Clone, Copy)]
 pub enum Refusal {
     // Its fetch, from a chunked level, passes its part, or the value is 2^32 or more.
     Fetch(usize),

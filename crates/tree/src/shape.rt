@@ -7,14 +7,14 @@ ghost use Rattle.tree.specs.Standing.{StretchIs};
 use codes::least;
 
 // The stretch of the list under a node: where it starts and how many pins it has.
-#[derive(Drop)]
+#[derive(Clone, Copy)]
 pub(crate) struct Stretch {
     pub(crate) start: usize,
     pub(crate) pins: usize,
 }
 
 // A node's position in the whole list, or that the number is no node's.
-#[derive(Drop)]
+#[derive(Clone, Copy)]
 pub enum Ranked {
     At(usize),
     NoNode,

@@ -11,7 +11,7 @@ use super::shape::missing_at;
 use super::targets::{Ending, Progress, Way, go_down, resumed};
 
 // The nodes opened in all, or why a target stops.
-#[derive(Drop)]
+#[derive(Clone, Copy)]
 pub enum Swept {
     Nodes(usize),
     Refused(Refusal),

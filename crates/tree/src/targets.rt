@@ -12,7 +12,7 @@ use super::shape::{child_of, height};
 
 // How far a sweep has come: how many nodes are remembered, the number that it goes on from with the time above it, and the nodes opened
 // in all. Between two targets that number is the missing child that the last one came to, which tells its position.
-#[derive(Drop)]
+#[derive(Clone, Copy)]
 pub(crate) struct Progress {
     pub(crate) count: usize,
     pub(crate) v: usize,
@@ -21,7 +21,7 @@ pub(crate) struct Progress {
 }
 
 // How a target ends.
-#[derive(Drop)]
+#[derive(Clone, Copy)]
 pub(crate) enum Ending {
     At(Progress),
     Refused(Refusal),
@@ -65,7 +65,7 @@ pub(crate) fn resumed<'a>(
 }
 
 // A target, and where it goes on.
-#[derive(Drop)]
+#[derive(Clone, Copy)]
 pub(crate) struct Way {
     pub(crate) from: Progress,
     pub(crate) target: u32,

@@ -8,14 +8,14 @@ use super::nodes::{LIMIT, Levels, Refusal, open_node, refusal_of};
 use super::shape::{child_of, height, missing_at, node_of};
 
 // What a walk gives: the time at a position, or the position of a target, with the nodes opened.
-#[derive(Drop)]
+#[derive(Clone, Copy)]
 pub struct Found {
     pub value: usize,
     pub nodes: usize,
 }
 
 // That, or why the walk stops.
-#[derive(Drop)]
+#[derive(Clone, Copy)]
 pub enum Walked {
     Found(Found),
     Refused(Refusal),

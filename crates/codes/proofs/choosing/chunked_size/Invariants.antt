@@ -1,0 +1,15 @@
+-- What the chunks counted take and the code of the values from bit s on make the whole.
+use Rattle.std.proofs.Common.{◌≡◌, ℕ, ◌+◌, ◌-◌, ◌*◌, ◌^◌, ◌<◌, ◌≤◌, List, length, sym, mul-le-mul_left, arith}
+use Rattle.codes.specs.Codes.{rest, chunked}
+use Rattle.codes.specs.Measure.{Measured}
+use Rattle.codes.proofs.Layers.{layers-nil, rest-none, within_more}
+use Rattle.codes.proofs.ChunkCounts.{length-layer, length-next}
+use Rattle.codes.proofs.choosing.chunked_size.Given as goal
+
+abbrev pub invariant-loop-s : goal.invariant-loop-s
+invariant-loop-s l =
+    (1 ≤ l.s) × (l.s < 40) × (l.chunks ≤ l.s * 2 ^ 32)
+    × ((vs : List ℕ) → Measured vs l.over → length vs ≡ l.count → l.chunks * (l.b + 1) + length (chunked l.b (rest l.s vs)) ≡ length (chunked l.b vs))
+
+abbrev pub decreases-loop-s : goal.decreases-loop-s
+decreases-loop-s l = 40 - l.s

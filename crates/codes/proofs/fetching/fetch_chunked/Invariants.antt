@@ -1,0 +1,19 @@
+-- Each turn is a turn of `answer`, at the layer where the fetch stands. The marks stay true, and are no matter to what is found.
+use Rattle.std.proofs.Common.{◌≡◌, ◌+◌, ◌-◌, ◌*◌, ◌^◌, ◌<◌, ◌≤◌, length, take, drop, sym, refl, ap, ◌∙◌, mul-le-mul_right, mul-le-mul_left, arith}
+use Rattle.codes.specs.Bits.{number, bits_of}
+use Rattle.codes.specs.Fetch.{value, within32, chunked_at}
+use Rattle.codes.specs.Marks.{Marks}
+use Rattle.codes.proofs.Bits.{length-fixed}
+use Rattle.codes.proofs.Words.{sum-part-le}
+use Rattle.codes.proofs.Turns.{extended-zero, answer, answer-short, answer-last, answer-over, answer-more}
+use Rattle.codes.proofs.fetching.fetch_chunked.Given as goal
+
+abbrev pub invariant-loop-layer : goal.invariant-loop-layer
+invariant-loop-layer l =
+    (l.layer.index < l.layer.count) × (l.layer.count ≤ l.end) × (l.layer.count * l.b ≤ l.layer.count * 8) × (l.layer.index * l.b + l.b ≤ l.layer.count * l.b)
+    × (l.end ≡ length l.part * 8) × (l.layer.at ≤ l.end) × (l.shift ≤ 32) × (l.acc < 2 ^ 32)
+    × (answer (bits_of l.part) l.b l.layer.at l.layer.count l.layer.index l.shift l.acc ≡ within32 (chunked_at l.b l.count l.index (bits_of l.part)))
+    × (l.k ≤ l.layer.at * 2) × (length l.marks ≡ length l.initial.marks) × Marks l.part l.marks
+
+abbrev pub decreases-loop-layer : goal.decreases-loop-layer
+decreases-loop-layer l = l.end - l.layer.at

@@ -1,0 +1,16 @@
+-- From t on each entry counts the values with more bits, and the next one down adds those of width t.
+use Rattle.std.proofs.Common.{◌≡◌, ℕ, ◌+◌, ◌-◌, ◌*◌, ◌^◌, ◌≤◌, List, length, get_or, sym, ap, ◌∙◌, arith, length-set, get_or-set_same}
+use Rattle.codes.specs.Codes.{rest}
+use Rattle.codes.specs.Measure.{counted, Tallied}
+use Rattle.codes.proofs.Layers.{within_more, rest-none}
+use Rattle.codes.proofs.Lists.{zeros-at}
+use Rattle.codes.proofs.Tallies.{measured-more}
+use Rattle.codes.proofs.measuring.sums.Given as goal
+
+abbrev pub invariant-loop-t : goal.invariant-loop-t
+invariant-loop-t l =
+    (l.t ≤ 32) × (length l.over ≡ 33) × (get_or l.over l.t 0 ≤ (32 - l.t) * 2 ^ 32)
+    × ((vs : List ℕ) → Tallied vs l.first l.second l.third l.fourth → (u : ℕ) → l.t ≤ u → u ≤ 32 → get_or l.over u 0 ≡ length (rest u vs))
+
+abbrev pub decreases-loop-t : goal.decreases-loop-t
+decreases-loop-t l = l.t

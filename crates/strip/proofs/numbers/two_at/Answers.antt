@@ -1,0 +1,21 @@
+-- Two bytes, each below 256, the first times 256, make a number below 2^16.
+use native.Mathlib.Omega.{arith}
+use mathlib.Core.Path.{refl}
+use Prim.Native.Nat.{◌+◌}
+use borrow.Author.Rules.{rules}
+use Rattle.strip.proofs.numbers.two_at.Goals as goal
+
+pub overflow_cast-high : goal.overflow_cast-high
+overflow_cast-high c = omega (arith, (c.shared_slice_known-1.given c.args.at).fits)
+
+pub overflow_cast-low : goal.overflow_cast-low
+overflow_cast-low c = omega (arith, (c.shared_slice_known-2-1.given (c.args.at + 1)).fits)
+
+pub overflow_mul-result : goal.overflow_mul-result
+overflow_mul-result c = omega (arith, (c.shared_slice_known-1.given c.args.at).fits, (c.shared_slice_known-2-1.given (c.args.at + 1)).fits)
+
+pub overflow_add-result : goal.overflow_add-result
+overflow_add-result c = omega (arith, (c.shared_slice_known-1.given c.args.at).fits, (c.shared_slice_known-2-1.given (c.args.at + 1)).fits)
+
+pub returns : goal.returns
+returns c = (refl, omega (arith, (c.shared_slice_known-1.given c.args.at).fits, (c.shared_slice_known-2-1.given (c.args.at + 1)).fits))

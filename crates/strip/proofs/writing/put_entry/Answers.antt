@@ -1,0 +1,29 @@
+-- The five bytes written one by one are those of the entry, in place of the five from byte `at` on (`sets-eq`).
+use native.Mathlib.Omega.{arith}
+use mathlib.Core.Path.{◌≡◌}
+use Prim.Native.Nat.{suc, ◌+◌}
+use lib.ListN.{length-set}
+use lib.Seq.{sets-eq}
+use Rattle.strip.specs.Layout.{entry}
+use borrow.Author.Rules.{rules}
+use Rattle.strip.proofs.writing.put_entry.Goals as goal
+
+pub bounds-out-at-2 : goal.bounds-out-at-2
+bounds-out-at-2 c = simp length-set (omega arith)
+
+pub bounds-out-at-3 : goal.bounds-out-at-3
+bounds-out-at-3 c = simp length-set (omega arith)
+
+pub bounds-out-at-4 : goal.bounds-out-at-4
+bounds-out-at-4 c = simp length-set (omega arith)
+
+pub bounds-out-at-5 : goal.bounds-out-at-5
+bounds-out-at-5 c = simp length-set (omega arith)
+
+pub returns : goal.returns
+returns c =
+    let e1 : c.args.at + 1 ≡ suc c.args.at = omega arith in
+    let e2 : c.args.at + 2 ≡ suc (suc c.args.at) = omega arith in
+    let e3 : c.args.at + 3 ≡ suc (suc (suc c.args.at)) = omega arith in
+    let e4 : c.args.at + 4 ≡ suc (suc (suc (suc c.args.at))) = omega arith in
+    rw (e1, e2, e3, e4) (sets-eq (entry c.args.code c.args.bytes) c.args.out.now c.args.at (omega arith))
