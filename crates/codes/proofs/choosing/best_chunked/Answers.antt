@@ -1,6 +1,4 @@
-use Rattle.std.proofs.Common.{◌≡◌, ℕ, ◌-◌, ◌≤◌, List, length, refl, ⊎_elim, arith}
-use Rattle.codes.specs.Choice.{best_chunked}
-use Rattle.codes.specs.Measure.{Measured}
+use Rattle.std.proofs.Common.{◌≡◌, refl, arith}
 use Rattle.codes.proofs.Best.{best-first, best-next, best-same}
 use Rattle.codes.proofs.choosing.best_chunked.Goals as goal
 use Rattle.codes.proofs.choosing.best_chunked.Goals.{then-s-size, else-s-size}
@@ -21,7 +19,7 @@ loop-k-preserved c = (
       let now = c.loop-k.invariant.1 vs h e in
       let sized = c.chunked_size-s.ensures vs h e in
       elim c.if-s-size.branch [
-        then-s-size w ↦ rw (w.code-is, w.size-is, best-next c.loop-k.k vs c.chunked_size-s.result (omega arith) sized (omega (arith, w.if-s-size.true))) (refl, refl)
+        | then-s-size w ↦ rw (w.code-is, w.size-is, best-next c.loop-k.k vs c.chunked_size-s.result (omega arith) sized (omega (arith, w.if-s-size.true))) (refl, refl)
         | else-s-size w ↦ rw (w.code-is, w.size-is, best-same c.loop-k.k vs c.chunked_size-s.result (omega arith) sized (omega (arith, w.if-s-size.false))) now
       ],
 )

@@ -1,8 +1,7 @@
 -- Code and size are those of the best code so far.
-use Rattle.std.proofs.Common.{◌≡◌, ℕ, ◌-◌, ◌≤◌, List, length, refl, ⊎_elim, arith}
+use Rattle.std.proofs.Common.{◌≡◌, ℕ, ◌-◌, ◌≤◌, List, length}
 use Rattle.codes.specs.Choice.{best_chunked}
 use Rattle.codes.specs.Measure.{Measured}
-use Rattle.codes.proofs.Best.{best-first, best-next, best-same}
 use Rattle.codes.proofs.choosing.best_chunked.Given as goal
 
 abbrev pub invariant-loop-k : goal.invariant-loop-k

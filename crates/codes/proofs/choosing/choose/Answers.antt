@@ -1,5 +1,5 @@
 -- The fixed code wins where no chunked code has fewer bits.
-use Rattle.std.proofs.Common.{◌≡◌, ◌*◌, ◌<◌, ◌≤◌, length, refl, ◌∙◌, arith, rules}
+use Rattle.std.proofs.Common.{◌≡◌, ◌*◌, ◌<◌, ◌≤◌, length, refl, ◌∙◌, arith}
 use Rattle.codes.specs.Choice.{best_chunked}
 use Rattle.codes.proofs.Best.{chosen-chunked, chosen-fixed}
 use Rattle.codes.proofs.Tallies.{measured-le}

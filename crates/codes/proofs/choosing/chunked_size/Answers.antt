@@ -1,6 +1,4 @@
-use Rattle.std.proofs.Common.{◌≡◌, ℕ, ◌+◌, ◌-◌, ◌*◌, ◌^◌, ◌<◌, ◌≤◌, List, length, sym, mul-le-mul_left, arith}
-use Rattle.codes.specs.Codes.{rest, chunked}
-use Rattle.codes.specs.Measure.{Measured}
+use Rattle.std.proofs.Common.{sym, mul-le-mul_left, arith}
 use Rattle.codes.proofs.Layers.{layers-nil, rest-none, within_more}
 use Rattle.codes.proofs.ChunkCounts.{length-layer, length-next}
 use Rattle.codes.proofs.choosing.chunked_size.Goals as goal

@@ -1,9 +1,7 @@
 -- What the chunks counted take and the code of the values from bit s on make the whole.
-use Rattle.std.proofs.Common.{◌≡◌, ℕ, ◌+◌, ◌-◌, ◌*◌, ◌^◌, ◌<◌, ◌≤◌, List, length, sym, mul-le-mul_left, arith}
+use Rattle.std.proofs.Common.{◌≡◌, ℕ, ◌+◌, ◌-◌, ◌*◌, ◌^◌, ◌<◌, ◌≤◌, List, length}
 use Rattle.codes.specs.Codes.{rest, chunked}
 use Rattle.codes.specs.Measure.{Measured}
-use Rattle.codes.proofs.Layers.{layers-nil, rest-none, within_more}
-use Rattle.codes.proofs.ChunkCounts.{length-layer, length-next}
 use Rattle.codes.proofs.choosing.chunked_size.Given as goal
 
 abbrev pub invariant-loop-s : goal.invariant-loop-s

@@ -1,7 +1,4 @@
-use Rattle.std.proofs.Common.{◌≡◌, ℕ, ◌-◌, ◌≤◌, List, get_or, sym, ◌∙◌, arith, eqb-true}
-use borrow.Author.Tests.{not-true, not-false, eqb-false}
-use Rattle.codes.specs.Choice.{widest}
-use Rattle.codes.specs.Measure.{Measured}
+use Rattle.std.proofs.Common.{◌≡◌, get_or, sym, ◌∙◌, arith}
 use Rattle.codes.proofs.Widths.{widest-le, widest-least}
 use Rattle.codes.proofs.Tallies.{none_within, rest_some}
 use Rattle.codes.proofs.choosing.fixed_width.Goals as goal

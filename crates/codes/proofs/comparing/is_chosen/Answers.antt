@@ -1,6 +1,6 @@
 -- Where code or length is not the chosen one, neither is the part. Else a part decoded to the values is what encode writes for them just
 -- where the bits after theirs are 0, which `zeros_after` tells.
-use Rattle.std.proofs.Common.{◌≡◌, ℕ, List, length, sym, ap, ◌∙◌, arith, rules}
+use Rattle.std.proofs.Common.{◌≡◌, ℕ, List, length, sym, ap, ◌∙◌, arith}
 use Rattle.codes.specs.declared.choosing.Choice.{Choice}
 use Rattle.codes.specs.Codes.{Within}
 use Rattle.codes.specs.Choice.{size, chosen}
@@ -17,7 +17,7 @@ pub returns-then-choice-code : goal.returns-then-choice-code
 returns-then-choice-code c = sym (other-code c.args.code c.args.values.now c.args.part.now (rw c.choose-choice.ensures at c.if-choice-code.true))
 
 pub overflow_add-size : goal.overflow_add-size
-overflow_add-size c = let vs = c.args.values.now in omega (arith, ap (λ (x : Choice). x.size) c.choose-choice.ensures, chosen-at-most vs (λ j. (c.type_inv.part j).fits))
+overflow_add-size c = let vs = c.args.values.now in omega (arith, ap (λ (x : Choice). x.size) c.choose-choice.ensures, chosen-at-most vs (λ j. (c.type_inv.values j).fits))
 
 pub returns-then-part-size : goal.returns-then-part-size
 returns-then-part-size c =
@@ -27,6 +27,6 @@ returns-then-part-size c =
 pub returns : goal.returns
 returns c =
     let vs = c.args.values.now in let bytes = c.args.part.now in let s = its_size vs c.args.code c.choose-choice.result c.choose-choice.ensures c.if-choice-code.false in
-    let w : Within 8 bytes = λ j. (c.shared_slice_known-2-1.given j).fits in
+    let w : Within 8 bytes = λ j. (c.type_inv.part j).fits in
     rw s.1 at c.zeros_after.ensures ∙ sym (same-part c.args.code (length vs) bytes vs c.requires.part_value w (rw s.1 at c.if-part-size.false))
     ∙ sym (chosen-code c.args.code vs bytes s.0)

@@ -1,5 +1,5 @@
 -- The bits after the first `size` are the lowest of the last byte, and `low_bits` has their number; an empty part has none.
-use Rattle.std.proofs.Common.{◌≡◌, ℕ, List, [], ◌∷◌, length, drop, sym, refl, arith, rules, eq-eqb}
+use Rattle.std.proofs.Common.{◌≡◌, ℕ, List, [], ◌∷◌, length, drop, sym, refl, arith, eq-eqb}
 use lib.Seq.{drop-nil}
 use Rattle.codes.specs.Bits.{number, fixed, bits_of}
 use Rattle.codes.proofs.Words.{last-bits}

@@ -1,6 +1,6 @@
 -- The two words have what two streams have in one turn, and `add_bits` adds their ones to those of `a`.
 use Rattle.codes.proofs.Streams.{two-words}
-use Rattle.std.proofs.Common.{arith, rules}
+use Rattle.std.proofs.Common.{arith}
 use Rattle.codes.proofs.counting.add_two.Goals as goal
 
 pub returns : goal.returns

@@ -1,5 +1,5 @@
 -- The ones up to a whole byte, those of whole words and those of what is left are all.
-use Rattle.std.proofs.Common.{◌≡◌, ℕ, ◌+◌, ◌-◌, ◌*◌, ◌/◌, ◌%◌, ◌≤◌, arith, rules}
+use Rattle.std.proofs.Common.{◌≡◌, ℕ, ◌+◌, ◌-◌, ◌*◌, ◌/◌, ◌%◌, ◌≤◌, arith}
 use Rattle.codes.proofs.Words.{ones-more}
 use Rattle.codes.proofs.counting.count_ones.Goals as goal
 

@@ -1,5 +1,5 @@
 -- The ones of the number that `read` gives are those of its bits (`ones-part`); of no bits there are none.
-use Rattle.std.proofs.Common.{refl, ap, ◌∙◌, arith, rules}
+use Rattle.std.proofs.Common.{refl, ap, ◌∙◌, arith}
 use lib.Count.{ones}
 use Rattle.codes.specs.Bits.{sum}
 use Rattle.codes.proofs.Words.{ones-part, sum-part-le}

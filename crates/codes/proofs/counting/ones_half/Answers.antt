@@ -1,5 +1,5 @@
 -- Four bytes make a number below 2^32, and in either order it has the ones of their bits (`ones-reversed`).
-use Rattle.std.proofs.Common.{◌≡◌, ◌+◌, get_or, ap, ◌∙◌, add-zero, arith, rules}
+use Rattle.std.proofs.Common.{◌≡◌, ◌+◌, get_or, ap, ◌∙◌, add-zero, arith}
 use lib.Count.{ones}
 use Rattle.codes.proofs.Words.{ones-reversed}
 use Rattle.codes.proofs.counting.ones_half.Goals as goal

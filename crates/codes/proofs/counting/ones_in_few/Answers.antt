@@ -1,5 +1,5 @@
-use Rattle.std.proofs.Common.{◌≡◌, ◌+◌, ◌-◌, ◌*◌, ◌≤◌, take, drop, refl, arith, rules}
-use Rattle.codes.specs.Bits.{sum, bits_of}
+use Rattle.std.proofs.Common.{◌≡◌, ◌+◌, ◌*◌, refl, arith}
+use Rattle.codes.specs.Bits.{sum}
 use Rattle.codes.proofs.Words.{ones-more}
 use Rattle.codes.proofs.counting.ones_in_few.Goals as goal
 

@@ -1,7 +1,6 @@
 -- After i turns `count` is the number of ones in the first i words, at most 64 for each.
-use Rattle.std.proofs.Common.{◌≡◌, ◌+◌, ◌-◌, ◌*◌, ◌≤◌, take, drop, refl, arith, rules}
+use Rattle.std.proofs.Common.{◌≡◌, ◌-◌, ◌*◌, ◌≤◌, take, drop}
 use Rattle.codes.specs.Bits.{sum, bits_of}
-use Rattle.codes.proofs.Words.{ones-more}
 use Rattle.codes.proofs.counting.ones_in_few.Given as goal
 
 abbrev pub invariant-loop-i : goal.invariant-loop-i

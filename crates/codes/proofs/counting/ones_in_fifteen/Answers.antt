@@ -1,5 +1,5 @@
 -- Each of the eleven additions keeps the weighted count of ones, so the four words left, by 1, 2, 4 and 8, have those of all fifteen.
-use Rattle.std.proofs.Common.{arith, rules}
+use Rattle.std.proofs.Common.{arith}
 use Rattle.codes.proofs.Streams.{fifteen-words}
 use Rattle.codes.proofs.counting.ones_in_fifteen.Goals as goal
 

@@ -1,5 +1,4 @@
-use Rattle.std.proofs.Common.{◌≡◌, ◌-◌, ◌*◌, ◌≤◌, ◌∙◌, arith}
-use Rattle.codes.specs.Streams.{in_streams}
+use Rattle.std.proofs.Common.{◌≡◌, ◌*◌, ◌∙◌, arith}
 use Rattle.codes.proofs.Streams.{streams-none, streams-more, streams-all}
 use Rattle.codes.proofs.counting.ones_in_streams.Goals as goal
 

@@ -1,8 +1,7 @@
 -- After i turns `count` has the first i words of each of the fifteen streams. A stream has `turns` words, so the next begins where it ends,
 -- and together they are all the words.
-use Rattle.std.proofs.Common.{◌≡◌, ◌-◌, ◌*◌, ◌≤◌, ◌∙◌, arith}
+use Rattle.std.proofs.Common.{◌≡◌, ◌-◌, ◌*◌, ◌≤◌}
 use Rattle.codes.specs.Streams.{in_streams}
-use Rattle.codes.proofs.Streams.{streams-none, streams-more, streams-all}
 use Rattle.codes.proofs.counting.ones_in_streams.Given as goal
 
 abbrev pub invariant-loop-i : goal.invariant-loop-i

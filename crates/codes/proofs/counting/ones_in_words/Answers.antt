@@ -1,5 +1,5 @@
 -- Fewer than 30 words are counted one by one. Of more, the streams count a multiple of 30, and the words left begin where these end.
-use Rattle.std.proofs.Common.{◌≡◌, ◌+◌, ◌*◌, ◌/◌, ◌%◌, arith, rules}
+use Rattle.std.proofs.Common.{◌≡◌, ◌+◌, ◌*◌, ◌/◌, ◌%◌, arith}
 use Rattle.codes.proofs.Words.{ones-more}
 use Rattle.codes.proofs.counting.ones_in_words.Goals as goal
 

@@ -1,5 +1,5 @@
 -- The first half is below 2^32, so the second, times 2^32, stands above it and the ones of both add up.
-use Rattle.std.proofs.Common.{◌≡◌, ◌+◌, ◌*◌, ◌^◌, ap, ◌∙◌, arith, rules}
+use Rattle.std.proofs.Common.{◌≡◌, ◌+◌, ◌*◌, ◌^◌, ap, ◌∙◌, arith}
 use lib.Count.{ones, ones_cat}
 use Rattle.codes.proofs.Words.{ones-more}
 use Rattle.codes.proofs.counting.ones_word.Goals as goal

@@ -1,4 +1,4 @@
-use Rattle.std.proofs.Common.{◌≡◌, ℕ, suc, ◌+◌, ◌-◌, ◌*◌, ◌^◌, ◌<◌, ◌≤◌, List, length, take, drop, sym, refl, ◌∙◌, mul-le-mul_left, arith, length-drop, length-take-le, get_or-take}
+use Rattle.std.proofs.Common.{◌≡◌, ℕ, suc, ◌+◌, ◌-◌, ◌*◌, ◌^◌, ◌≤◌, List, length, take, drop, sym, refl, ◌∙◌, mul-le-mul_left, arith, length-drop, length-take-le, get_or-take}
 use Rattle.codes.specs.Bits.{bits_of, sum}
 use Rattle.codes.specs.Decode.{layered, decoded_layers}
 use Rattle.codes.proofs.Bits.{length-fixed}
@@ -42,8 +42,10 @@ returns-then-not-decode_layers t c =
     let r = c.count_ones-rests.result in
     let later = decoded_layers (a.layers - 1) a.b r (drop (a.at + a.n + a.n * a.b) (bits_of a.part.now)) in
     let d = c.decode_layers in
-    rw (layered_at a.layers a.b a.n a.at r a.part.now (omega arith) (omega arith) c.count_ones-rests.ensures.1,
-      says-no later {r = d.result} (take r d.new.values) c.if-not-decode_layers.true d.ensures) refl
+    rw (
+      layered_at a.layers a.b a.n a.at r a.part.now (omega arith) (omega arith) c.count_ones-rests.ensures.1,
+      says-no later {r = d.result} (take r d.new.values) c.if-not-decode_layers.true d.ensures,
+    ) refl
 
 pub returns-then-not-all_small : goal.returns-then-not-all_small
 returns-then-not-all_small t c =
@@ -51,8 +53,11 @@ returns-then-not-all_small t c =
     let r = c.count_ones-rests.result in
     let later = decoded_layers (a.layers - 1) a.b r (drop (a.at + a.n + a.n * a.b) (bits_of a.part.now)) in
     let d = c.decode_layers in
-    rw (layered_at a.layers a.b a.n a.at r a.part.now (omega arith) (omega arith) c.count_ones-rests.ensures.1,
-      says-yes later {r = d.result} (take r d.new.values) c.if-not-decode_layers.false d.ensures, sym c.all_small.ensures ∙ c.if-not-all_small.true) refl
+    rw (
+      layered_at a.layers a.b a.n a.at r a.part.now (omega arith) (omega arith) c.count_ones-rests.ensures.1,
+      says-yes later {r = d.result} (take r d.new.values) c.if-not-decode_layers.false d.ensures,
+      sym c.all_small.ensures ∙ c.if-not-all_small.true,
+    ) refl
 
 pub merge-requires : goal.merge-requires
 merge-requires t c =
@@ -70,5 +75,8 @@ returns t c =
     let r = c.count_ones-rests.result in
     let later = decoded_layers (a.layers - 1) a.b r (drop (a.at + a.n + a.n * a.b) (bits_of a.part.now)) in
     let d = c.decode_layers in
-    rw (layered_at a.layers a.b a.n a.at r a.part.now (omega arith) (omega arith) c.count_ones-rests.ensures.1,
-      says-yes later {r = d.result} (take r d.new.values) c.if-not-decode_layers.false d.ensures, sym c.all_small.ensures ∙ c.if-not-all_small.false) (refl, c.merge.ensures)
+    rw (
+      layered_at a.layers a.b a.n a.at r a.part.now (omega arith) (omega arith) c.count_ones-rests.ensures.1,
+      says-yes later {r = d.result} (take r d.new.values) c.if-not-decode_layers.false d.ensures,
+      sym c.all_small.ensures ∙ c.if-not-all_small.false,
+    ) (refl, c.merge.ensures)

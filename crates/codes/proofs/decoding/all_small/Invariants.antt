@@ -1,10 +1,6 @@
 -- `joined` is below 2^(32 - b) just where each value so far and one less of it is; one less of 0 wraps to all 32 bits, so a 0 is told, too.
-use Rattle.std.proofs.Common.{◌≡◌, ℕ, ◌+◌, ◌-◌, ◌*◌, ◌/◌, ◌%◌, ◌^◌, ◌<◌, ◌≤◌, Bool, true, false, eqb, List, length, get_or, take, sym, refl, ◌∙◌, div-lt_iff_lt-mul, arith, length-take-le, get_or-take, pow_pos, pow_mono, eqb-true}
-use native.Mathlib.Nat.{div-eq_of_lt}
-use lib.Bits.{bit_or, or_lt, or_add_and, and_le_l, and_le_r}
-use borrow.Author.Tests.{eqb-false}
-use Rattle.codes.specs.Decode.{from_one}
-use Rattle.codes.proofs.Merges.{FromOne, from-one-all, from-one-at}
+use Rattle.std.proofs.Common.{ℕ, ◌-◌, ◌^◌, ◌<◌, ◌≤◌, List, get_or}
+use Rattle.codes.proofs.Merges.{FromOne}
 use Rattle.codes.proofs.decoding.all_small.Given as goal
 
 -- the bits of the first i values, and of one less each, tell whether these are small

@@ -1,5 +1,5 @@
 -- What `decode_kind` answers tells whether the level is decoded; where it is not, `clear` makes every entry 0.
-use Rattle.std.proofs.Common.{ℕ, List, ◌++◌, length, replicate, refl, ap, ◌∙◌, append-nil, arith, drop_of_length-le, rules}
+use Rattle.std.proofs.Common.{ℕ, List, ◌++◌, length, replicate, refl, ap, ◌∙◌, append-nil, arith, drop_of_length-le}
 use Rattle.codes.specs.Decode.{decoded}
 use Rattle.codes.proofs.Decodes.{says-no, says-yes}
 use Rattle.codes.proofs.decoding.decode.Goals as goal

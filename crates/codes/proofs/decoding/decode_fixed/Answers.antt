@@ -1,5 +1,5 @@
 -- The part has too few bits, or all values: zeros for width 0, else by fours, twos and ones, each from where the one before ends.
-use Rattle.std.proofs.Common.{◌≡◌, ℕ, List, ◌++◌, length, replicate, sym, refl, ap, ◌∙◌, append-nil, mul-le-mul_left, arith, rules}
+use Rattle.std.proofs.Common.{◌≡◌, ℕ, List, ◌++◌, length, replicate, sym, refl, ap, ◌∙◌, append-nil, mul-le-mul_left, arith}
 use lib.Seq.{drop-length}
 use Rattle.codes.specs.Bits.{bits_of}
 use Rattle.codes.specs.Merging.{InPart}

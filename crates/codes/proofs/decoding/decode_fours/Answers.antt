@@ -1,5 +1,4 @@
-use Rattle.std.proofs.Common.{◌≡◌, ◌+◌, ◌-◌, ◌*◌, ◌%◌, ◌≤◌, length, refl, mul-le-mul_right, arith}
-use Rattle.codes.specs.Merging.{FixedTo}
+use Rattle.std.proofs.Common.{◌≡◌, ◌+◌, ◌*◌, ◌≤◌, length, refl, mul-le-mul_right, arith}
 use Rattle.codes.proofs.Words.{last-four}
 use Rattle.codes.proofs.decoding.decode_fours.Goals as goal
 

@@ -1,8 +1,7 @@
 -- Before each turn the first i values are the part's. One read has the next four, of at most 14 bits each: `put_two` takes the first two
 -- from it shifted by 2w, and the last two from it as it is.
-use Rattle.std.proofs.Common.{◌≡◌, ◌+◌, ◌-◌, ◌*◌, ◌%◌, ◌≤◌, length, refl, mul-le-mul_right, arith}
+use Rattle.std.proofs.Common.{◌≡◌, ◌-◌, ◌%◌, ◌≤◌, length}
 use Rattle.codes.specs.Merging.{FixedTo}
-use Rattle.codes.proofs.Words.{last-four}
 use Rattle.codes.proofs.decoding.decode_fours.Given as goal
 
 abbrev pub invariant-loop-i : goal.invariant-loop-i

@@ -1,5 +1,5 @@
 -- The kind decides, as in `kind_decoded`; by what `kind_of` tells a width is at most 32 and a chunk has 1 to 8 bits, as the decoders ask.
-use Rattle.std.proofs.Common.{◌≡◌, length, sym, refl, ◌∙◌, arith, take_all, rules}
+use Rattle.std.proofs.Common.{◌≡◌, length, sym, refl, ◌∙◌, arith, take_all}
 use Rattle.codes.specs.declared.kinds.Kind.TheVariants.{Fixed, Chunked, Refused}
 use Rattle.codes.specs.Codes.{kind_of}
 use Rattle.codes.specs.Decode.{kind_decoded}

@@ -1,5 +1,5 @@
-use Rattle.std.proofs.Common.{◌≡◌, ◌+◌, ◌-◌, ◌≤◌, length, refl, ◌∙◌, mul-le-mul_right, arith, length-set, pow_mono}
-use Rattle.codes.specs.Merging.{fixed_value, FixedTo}
+use Rattle.std.proofs.Common.{◌+◌, ◌≤◌, length, refl, ◌∙◌, mul-le-mul_right, arith, length-set, pow_mono}
+use Rattle.codes.specs.Merging.{fixed_value}
 use Rattle.codes.proofs.Lists.{more}
 use Rattle.codes.proofs.decoding.decode_ones.Goals as goal
 

@@ -1,7 +1,6 @@
 -- Before each turn the first i values are the part's, and `read` has the next, of at most 32 bits.
-use Rattle.std.proofs.Common.{◌≡◌, ◌+◌, ◌-◌, ◌≤◌, length, refl, ◌∙◌, mul-le-mul_right, arith, length-set, pow_mono}
-use Rattle.codes.specs.Merging.{fixed_value, FixedTo}
-use Rattle.codes.proofs.Lists.{more}
+use Rattle.std.proofs.Common.{◌≡◌, ◌-◌, ◌≤◌, length}
+use Rattle.codes.specs.Merging.{FixedTo}
 use Rattle.codes.proofs.decoding.decode_ones.Given as goal
 
 abbrev pub invariant-loop-i : goal.invariant-loop-i

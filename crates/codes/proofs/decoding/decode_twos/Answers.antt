@@ -1,5 +1,4 @@
-use Rattle.std.proofs.Common.{◌≡◌, ◌+◌, ◌-◌, ◌%◌, ◌≤◌, length, refl, mul-le-mul_right, arith}
-use Rattle.codes.specs.Merging.{FixedTo}
+use Rattle.std.proofs.Common.{◌+◌, ◌≤◌, length, refl, mul-le-mul_right, arith}
 use Rattle.codes.proofs.decoding.decode_twos.Goals as goal
 
 pub returns-then-w-gt28 : goal.returns-then-w-gt28

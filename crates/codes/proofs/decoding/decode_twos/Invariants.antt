@@ -1,5 +1,5 @@
 -- Before each turn the first i values are the part's. One read has the next two, of at most 28 bits each, and `put_two` writes them.
-use Rattle.std.proofs.Common.{◌≡◌, ◌+◌, ◌-◌, ◌%◌, ◌≤◌, length, refl, mul-le-mul_right, arith}
+use Rattle.std.proofs.Common.{◌≡◌, ◌-◌, ◌%◌, ◌≤◌, length}
 use Rattle.codes.specs.Merging.{FixedTo}
 use Rattle.codes.proofs.decoding.decode_twos.Given as goal
 

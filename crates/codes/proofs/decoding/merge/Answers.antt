@@ -1,6 +1,6 @@
 use Rattle.std.proofs.Common.{◌≡◌, ℕ, ◌+◌, ◌-◌, ◌*◌, ◌/◌, ◌≤◌, List, length, take, drop, refl, le_trans, mul-le-mul_right, le-div_iff_mul-le, div-mul-le_self, arith, length-drop, length-take-le, get_or-take}
 use Rattle.codes.specs.Bits.{bits_of}
-use Rattle.codes.specs.Merging.{continuations_at, chunks_at, Merging}
+use Rattle.codes.specs.Merging.{continuations_at, chunks_at}
 use Rattle.codes.proofs.Bits.{length-fixed, sum-take-add}
 use Rattle.codes.proofs.Merges.{merging-first, merging-last}
 use Rattle.codes.proofs.decoding.merge.Goals as goal

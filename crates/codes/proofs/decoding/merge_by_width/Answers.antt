@@ -1,5 +1,5 @@
 -- A constant width is the width: what is asked and what is promised are those of `merge_each`.
-use Rattle.std.proofs.Common.{sym, ◌∙◌, rules}
+use Rattle.std.proofs.Common.{sym, ◌∙◌}
 use Rattle.codes.proofs.decoding.merge_by_width.Goals as goal
 
 pub merge_each-requires : goal.merge_each-requires

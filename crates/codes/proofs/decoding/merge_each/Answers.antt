@@ -1,6 +1,6 @@
-use Rattle.std.proofs.Common.{◌≡◌, ℕ, suc, ◌+◌, ◌-◌, ◌*◌, ◌%◌, ◌^◌, ◌<◌, ◌≤◌, length, get_or, take, drop, refl, ◌∙◌, lt_of_lt_of_le, mod-lt, arith, length-set, pow_pos, pow_mono, w32, w64, Fits}
+use Rattle.std.proofs.Common.{◌≡◌, ℕ, suc, ◌+◌, ◌-◌, ◌*◌, ◌%◌, ◌^◌, ◌<◌, get_or, take, drop, refl, ◌∙◌, lt_of_lt_of_le, mod-lt, arith, length-set, pow_pos, pow_mono, w32, w64, Fits}
 use Rattle.codes.specs.Bits.{number}
-use Rattle.codes.specs.Merging.{chunks_at, continuation_word, chunk_word, Merges, LayerGroup}
+use Rattle.codes.specs.Merging.{chunks_at}
 use Rattle.codes.proofs.Groups.{group-whole, value-fits, Last, last_of, last-chunk}
 use Rattle.codes.proofs.decoding.merge_each.Goals as goal
 

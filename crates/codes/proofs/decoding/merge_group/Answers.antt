@@ -1,5 +1,5 @@
 -- Both reads have the bits of the whole group, one and b for each value.
-use Rattle.std.proofs.Common.{◌+◌, ◌*◌, ◌≤◌, length, mul-le-mul, mul-le-mul_left, mul-one, arith, rules}
+use Rattle.std.proofs.Common.{◌+◌, ◌*◌, ◌≤◌, length, mul-le-mul, mul-le-mul_left, mul-one, arith}
 use Rattle.codes.proofs.Groups.{group-whole}
 use Rattle.codes.proofs.decoding.merge_group.Goals as goal
 

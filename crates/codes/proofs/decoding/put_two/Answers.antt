@@ -1,5 +1,5 @@
 -- The w lowest bits of x are value i + 1 and the w above them value i, so each write adds one to the values that are the part's.
-use Rattle.std.proofs.Common.{◌≡◌, ◌+◌, ◌*◌, set, ◌∙◌, arith, length-set, pow_mono, rules}
+use Rattle.std.proofs.Common.{◌≡◌, ◌+◌, ◌*◌, set, ◌∙◌, arith, length-set, pow_mono}
 use Rattle.codes.specs.Merging.{fixed_value}
 use Rattle.codes.proofs.Lists.{more}
 use Rattle.codes.proofs.Words.{last-two}

@@ -1,4 +1,4 @@
-use Rattle.std.proofs.Common.{◌≡◌, ◌-◌, ◌≤◌, ◌++◌, length, drop, replicate, refl, ◌∙◌, arith, length-set}
+use Rattle.std.proofs.Common.{◌≡◌, refl, ◌∙◌, arith, length-set}
 use borrow.Author.Fill.{fill_none, fill_more}
 use Rattle.codes.proofs.encoding.clear.Goals as goal
 

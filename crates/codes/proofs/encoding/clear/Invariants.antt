@@ -1,6 +1,5 @@
 -- After i turns the first i entries are 0 and the others as they were.
-use Rattle.std.proofs.Common.{◌≡◌, ◌-◌, ◌≤◌, ◌++◌, length, drop, replicate, refl, ◌∙◌, arith, length-set}
-use borrow.Author.Fill.{fill_none, fill_more}
+use Rattle.std.proofs.Common.{◌≡◌, ◌-◌, ◌≤◌, ◌++◌, length, drop, replicate}
 use Rattle.codes.proofs.encoding.clear.Given as goal
 
 abbrev pub invariant-loop-i : goal.invariant-loop-i

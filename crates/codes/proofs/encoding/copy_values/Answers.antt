@@ -1,4 +1,4 @@
-use Rattle.std.proofs.Common.{◌≡◌, ◌-◌, ◌≤◌, ◌++◌, length, get_or, take, drop, refl, ◌∙◌, zero-add, add-one, arith, length-set}
+use Rattle.std.proofs.Common.{◌≡◌, length, get_or, refl, ◌∙◌, zero-add, add-one, arith, length-set}
 use lib.Seq.{paste-suc, take-length}
 use Rattle.codes.proofs.encoding.copy_values.Goals as goal
 

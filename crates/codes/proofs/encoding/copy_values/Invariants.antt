@@ -1,6 +1,5 @@
 -- After i turns the first i entries are the first i values and the others as they were.
-use Rattle.std.proofs.Common.{◌≡◌, ◌-◌, ◌≤◌, ◌++◌, length, get_or, take, drop, refl, ◌∙◌, zero-add, add-one, arith, length-set}
-use lib.Seq.{paste-suc, take-length}
+use Rattle.std.proofs.Common.{◌≡◌, ◌-◌, ◌≤◌, ◌++◌, length, take, drop}
 use Rattle.codes.proofs.encoding.copy_values.Given as goal
 
 abbrev pub invariant-loop-i : goal.invariant-loop-i

@@ -1,5 +1,5 @@
 -- The bits of the code are written from the front, and finished.
-use Rattle.std.proofs.Common.{◌≡◌, length, take, drop, sym, refl, ap, ◌∙◌, arith, rules}
+use Rattle.std.proofs.Common.{◌≡◌, length, take, drop, sym, refl, ap, ◌∙◌, arith}
 use lib.Seq.{take-append_seam, drop-append_seam}
 use Rattle.codes.specs.declared.kinds.Kind.TheVariants.{Fixed, Chunked, Refused}
 use Rattle.codes.specs.Bits.{fixed}

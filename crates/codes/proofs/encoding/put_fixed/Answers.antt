@@ -1,7 +1,6 @@
-use Rattle.std.proofs.Common.{◌≡◌, ◌+◌, ◌-◌, ◌<◌, ◌≤◌, length, get_or, take, mul-le-mul_right, arith}
+use Rattle.std.proofs.Common.{◌≡◌, ◌+◌, ◌≤◌, length, get_or, mul-le-mul_right, arith}
 use lib.Seq.{take-length}
 use Rattle.codes.specs.Bits.{fixed}
-use Rattle.codes.specs.Written.{Wrote}
 use Rattle.codes.proofs.Bits.{bits-mod}
 use Rattle.codes.proofs.BitsWritten.{wrote_nothing, wrote-both}
 use Rattle.codes.proofs.LayersWritten.{fixed-suc, length-fixed-take}

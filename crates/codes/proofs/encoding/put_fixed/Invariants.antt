@@ -1,11 +1,7 @@
 -- Each turn writes the bits of one value after those of the values before it.
-use Rattle.std.proofs.Common.{◌≡◌, ◌+◌, ◌-◌, ◌<◌, ◌≤◌, length, get_or, take, mul-le-mul_right, arith}
-use lib.Seq.{take-length}
+use Rattle.std.proofs.Common.{◌-◌, ◌<◌, ◌≤◌, length, take}
 use Rattle.codes.specs.Bits.{fixed}
 use Rattle.codes.specs.Written.{Wrote}
-use Rattle.codes.proofs.Bits.{bits-mod}
-use Rattle.codes.proofs.BitsWritten.{wrote_nothing, wrote-both}
-use Rattle.codes.proofs.LayersWritten.{fixed-suc, length-fixed-take}
 use Rattle.codes.proofs.encoding.put_fixed.Given as goal
 
 abbrev pub invariant-loop-i : goal.invariant-loop-i

@@ -1,5 +1,5 @@
 -- What `read` gives is below 2^b, and b + shift is at most 40, so the shift loses no bit.
-use Rattle.std.proofs.Common.{◌+◌, lt_of_lt_of_le, arith, pow_mono, shl_lt, shl_exact, rules}
+use Rattle.std.proofs.Common.{◌+◌, lt_of_lt_of_le, arith, pow_mono, shl_lt, shl_exact}
 use Rattle.codes.proofs.fetching.chunk_at.Goals as goal
 
 pub returns : goal.returns

@@ -1,5 +1,5 @@
 -- What the code byte says decides, and only a chunked fetch has to do with the marks.
-use Rattle.std.proofs.Common.{sym, refl, ◌∙◌, arith, rules}
+use Rattle.std.proofs.Common.{sym, refl, ◌∙◌, arith}
 use Rattle.codes.specs.Fetch.{fetched}
 use Rattle.codes.proofs.CodeByte.{kind-told}
 use Rattle.codes.proofs.fetching.fetch.Goals as goal

@@ -1,10 +1,9 @@
-use Rattle.std.proofs.Common.{◌≡◌, ◌+◌, ◌-◌, ◌*◌, ◌^◌, ◌<◌, ◌≤◌, length, take, drop, sym, refl, ap, ◌∙◌, mul-le-mul_right, mul-le-mul_left, arith}
+use Rattle.std.proofs.Common.{◌≡◌, ◌+◌, ◌<◌, ◌≤◌, take, drop, sym, refl, ap, ◌∙◌, mul-le-mul_right, mul-le-mul_left, arith}
 use Rattle.codes.specs.Bits.{number, bits_of}
 use Rattle.codes.specs.Fetch.{value, within32, chunked_at}
-use Rattle.codes.specs.Marks.{Marks}
 use Rattle.codes.proofs.Bits.{length-fixed}
 use Rattle.codes.proofs.Words.{sum-part-le}
-use Rattle.codes.proofs.Turns.{extended-zero, answer, answer-short, answer-last, answer-over, answer-more}
+use Rattle.codes.proofs.Turns.{extended-zero, answer-short, answer-last, answer-over, answer-more}
 use Rattle.codes.proofs.fetching.fetch_chunked.Goals as goal
 
 pub returns-then-end-count : goal.returns-then-end-count

@@ -1,11 +1,9 @@
 -- Each turn is a turn of `answer`, at the layer where the fetch stands. The marks stay true, and are no matter to what is found.
-use Rattle.std.proofs.Common.{◌≡◌, ◌+◌, ◌-◌, ◌*◌, ◌^◌, ◌<◌, ◌≤◌, length, take, drop, sym, refl, ap, ◌∙◌, mul-le-mul_right, mul-le-mul_left, arith}
-use Rattle.codes.specs.Bits.{number, bits_of}
-use Rattle.codes.specs.Fetch.{value, within32, chunked_at}
+use Rattle.std.proofs.Common.{◌≡◌, ◌+◌, ◌-◌, ◌*◌, ◌^◌, ◌<◌, ◌≤◌, length}
+use Rattle.codes.specs.Bits.{bits_of}
+use Rattle.codes.specs.Fetch.{within32, chunked_at}
 use Rattle.codes.specs.Marks.{Marks}
-use Rattle.codes.proofs.Bits.{length-fixed}
-use Rattle.codes.proofs.Words.{sum-part-le}
-use Rattle.codes.proofs.Turns.{extended-zero, answer, answer-short, answer-last, answer-over, answer-more}
+use Rattle.codes.proofs.Turns.{answer}
 use Rattle.codes.proofs.fetching.fetch_chunked.Given as goal
 
 abbrev pub invariant-loop-layer : goal.invariant-loop-layer

@@ -1,5 +1,5 @@
 -- Of width 0 every value is 0; of another it lies in the part, and is read.
-use Rattle.std.proofs.Common.{sym, ap, ◌∙◌, arith, pow_mono, rules}
+use Rattle.std.proofs.Common.{sym, ap, ◌∙◌, arith, pow_mono}
 use Rattle.codes.specs.Bits.{number, bits_of}
 use Rattle.codes.specs.Fetch.{value}
 use Rattle.codes.proofs.Bits.{length-fixed}

@@ -1,5 +1,5 @@
 -- The tests are those of the definition, by bytes; the value is read where a fetch of a fixed code reads it.
-use Rattle.std.proofs.Common.{ℕ, ◌+◌, ◌*◌, ◌≤◌, length, sym, ◌∙◌, arith, rules, le-ltb, lt-ltb}
+use Rattle.std.proofs.Common.{ℕ, ◌+◌, ◌*◌, ◌≤◌, length, sym, ◌∙◌, arith, le-ltb, lt-ltb}
 use Rattle.codes.specs.Bits.{bits_of}
 use Rattle.codes.specs.Fetch.{short_at}
 use Rattle.codes.proofs.Bits.{length-fixed}

@@ -1,5 +1,5 @@
 -- The ones before the value and those of the whole layer, each counted from the layer's first bit.
-use Rattle.std.proofs.Common.{◌≡◌, ◌+◌, ◌-◌, refl, ◌∙◌, arith, rules}
+use Rattle.std.proofs.Common.{◌≡◌, ◌+◌, ◌-◌, refl, ◌∙◌, arith}
 use Rattle.codes.specs.Bits.{sum}
 use Rattle.codes.proofs.fetching.next_layer.Goals as goal
 

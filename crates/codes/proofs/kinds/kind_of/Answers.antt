@@ -1,5 +1,5 @@
 -- Each range of the match is a range of `kind_of`; the last branch has two, the codes from 33 to 64 and those above 72.
-use Rattle.std.proofs.Common.{sym, arith, rules}
+use Rattle.std.proofs.Common.{sym, arith}
 use Rattle.codes.proofs.CodeByte.{kind-fixed, kind-chunked, kind-between, kind-above}
 use Rattle.codes.proofs.kinds.kind_of.Goals as goal
 

@@ -1,5 +1,5 @@
 -- The power is 2^b, and one less is the mask of the b lowest bits, which leaves the remainder.
-use Rattle.std.proofs.Common.{arith, pow_pos, rules}
+use Rattle.std.proofs.Common.{arith, pow_pos}
 use lib.Bits.{and_mask}
 use Rattle.codes.proofs.layering.chunk_of.Goals as goal
 

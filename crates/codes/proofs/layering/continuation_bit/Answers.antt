@@ -1,5 +1,5 @@
 -- v is below 2^b just where v / 2^b is 0, and then no chunk follows the lowest.
-use Rattle.std.proofs.Common.{◌/◌, ◌^◌, ◌<◌, ◌≤◌, le-div_iff_mul-le, arith, pow_pos, rules, eq-eqb, ne_eqb}
+use Rattle.std.proofs.Common.{◌/◌, ◌^◌, ◌<◌, ◌≤◌, le-div_iff_mul-le, arith, pow_pos, eq-eqb, ne_eqb}
 use native.Mathlib.Nat.{div-eq_of_lt}
 use Rattle.codes.proofs.layering.continuation_bit.Goals as goal
 

@@ -1,4 +1,4 @@
-use Rattle.std.proofs.Common.{◌≡◌, ℕ, ◌+◌, ◌-◌, ◌*◌, ◌/◌, ◌%◌, ◌^◌, ◌<◌, ◌≤◌, List, ◌++◌, length, get_or, take, drop, sym, refl, ◌∙◌, append-nil, mul-le-mul_right, zero-mul, arith, length-drop, length-set, get_or-drop, drop-set-lt, pow_mono, shl_lt}
+use Rattle.std.proofs.Common.{◌≡◌, ℕ, ◌+◌, ◌*◌, ◌/◌, ◌%◌, ◌^◌, ◌<◌, ◌≤◌, List, length, get_or, take, drop, sym, refl, ◌∙◌, append-nil, mul-le-mul_right, zero-mul, arith, length-drop, length-set, get_or-drop, drop-set-lt, pow_mono, shl_lt}
 use Rattle.codes.specs.Bits.{number, fixed}
 use Rattle.codes.specs.Codes.{rest}
 use Rattle.codes.proofs.Bits.{bits-fixed, number_lt}

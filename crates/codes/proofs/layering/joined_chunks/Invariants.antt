@@ -1,11 +1,8 @@
 -- After i turns `joined` spells the chunks of i values, and what these have above follows the `left` in front. It is stored no further than
 -- at the value just read, so those not read yet are as they were.
-use Rattle.std.proofs.Common.{◌≡◌, ℕ, ◌+◌, ◌-◌, ◌*◌, ◌/◌, ◌%◌, ◌^◌, ◌<◌, ◌≤◌, List, ◌++◌, length, get_or, take, drop, sym, refl, ◌∙◌, append-nil, mul-le-mul_right, zero-mul, arith, length-drop, length-set, get_or-drop, drop-set-lt, pow_mono, shl_lt}
+use Rattle.std.proofs.Common.{◌≡◌, ◌+◌, ◌-◌, ◌*◌, ◌^◌, ◌<◌, ◌≤◌, ◌++◌, length, take, drop}
 use Rattle.codes.specs.Bits.{number, fixed}
 use Rattle.codes.specs.Codes.{rest}
-use Rattle.codes.proofs.Bits.{bits-fixed, number_lt}
-use Rattle.codes.proofs.LayersWritten.{length-fixed-take, number-fixed-suc, rest-suc}
-use Rattle.codes.proofs.Lists.{drop-later, get_or-there}
 use Rattle.codes.proofs.layering.joined_chunks.Given as goal
 
 abbrev pub invariant-loop-i : goal.invariant-loop-i

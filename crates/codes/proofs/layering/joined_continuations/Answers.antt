@@ -1,4 +1,4 @@
-use Rattle.std.proofs.Common.{◌≡◌, ◌+◌, ◌-◌, ◌^◌, ◌<◌, ◌≤◌, take, drop, refl, arith, length-drop, get_or-drop, pow_mono}
+use Rattle.std.proofs.Common.{◌≡◌, ◌+◌, take, drop, refl, arith, length-drop, get_or-drop, pow_mono}
 use Rattle.codes.specs.Bits.{number}
 use Rattle.codes.proofs.Bits.{number_lt}
 use Rattle.codes.proofs.Layers.{bits-continuations}

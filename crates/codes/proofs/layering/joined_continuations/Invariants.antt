@@ -1,9 +1,7 @@
 -- After i turns `joined` is the number that the continuation bits of i values spell; of at most 32 bits it stays below 2^32.
-use Rattle.std.proofs.Common.{◌≡◌, ◌+◌, ◌-◌, ◌^◌, ◌<◌, ◌≤◌, take, drop, refl, arith, length-drop, get_or-drop, pow_mono}
+use Rattle.std.proofs.Common.{◌≡◌, ◌-◌, ◌^◌, ◌<◌, ◌≤◌, drop}
 use Rattle.codes.specs.Bits.{number}
-use Rattle.codes.proofs.Bits.{number_lt}
-use Rattle.codes.proofs.Layers.{bits-continuations}
-use Rattle.codes.proofs.LayersWritten.{continuations, length-continuations, number-continuations-suc}
+use Rattle.codes.proofs.LayersWritten.{continuations}
 use Rattle.codes.proofs.layering.joined_continuations.Given as goal
 
 abbrev pub invariant-loop-i : goal.invariant-loop-i

@@ -1,7 +1,6 @@
-use Rattle.std.proofs.Common.{◌≡◌, ℕ, ◌+◌, ◌-◌, ◌*◌, ◌/◌, ◌<◌, ◌≤◌, length, take, drop, refl, le_trans, mul-le-mul_right, add-mul, le-div_iff_mul-le, div-mul-le_self, arith, length-drop}
+use Rattle.std.proofs.Common.{◌≡◌, ℕ, ◌+◌, ◌*◌, ◌/◌, ◌≤◌, take, drop, refl, le_trans, mul-le-mul_right, add-mul, le-div_iff_mul-le, div-mul-le_self, arith, length-drop}
 use Rattle.codes.specs.Bits.{fixed}
 use Rattle.codes.specs.Codes.{rest}
-use Rattle.codes.specs.Written.{Wrote}
 use Rattle.codes.proofs.Bits.{bits-fixed, number_lt, bits-number}
 use Rattle.codes.proofs.BitsWritten.{wrote_nothing, wrote-both}
 use Rattle.codes.proofs.LayersWritten.{fixed-add, length-fixed-take, rest-add}

@@ -1,13 +1,9 @@
 -- Before each turn the lowest chunks of the first i values are written and what these values have above stands at the front; the values
 -- from i on are as they were.
-use Rattle.std.proofs.Common.{◌≡◌, ℕ, ◌+◌, ◌-◌, ◌*◌, ◌/◌, ◌<◌, ◌≤◌, length, take, drop, refl, le_trans, mul-le-mul_right, add-mul, le-div_iff_mul-le, div-mul-le_self, arith, length-drop}
+use Rattle.std.proofs.Common.{◌≡◌, ◌-◌, ◌<◌, ◌≤◌, length, take, drop}
 use Rattle.codes.specs.Bits.{fixed}
 use Rattle.codes.specs.Codes.{rest}
 use Rattle.codes.specs.Written.{Wrote}
-use Rattle.codes.proofs.Bits.{bits-fixed, number_lt, bits-number}
-use Rattle.codes.proofs.BitsWritten.{wrote_nothing, wrote-both}
-use Rattle.codes.proofs.LayersWritten.{fixed-add, length-fixed-take, rest-add}
-use Rattle.codes.proofs.Lists.{drop-later}
 use Rattle.codes.proofs.layering.put_chunks.Given as goal
 
 abbrev pub invariant-loop-i : goal.invariant-loop-i

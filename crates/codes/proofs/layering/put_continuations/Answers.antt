@@ -1,5 +1,4 @@
-use Rattle.std.proofs.Common.{◌≡◌, ◌-◌, ◌<◌, ◌≤◌, take, drop, arith, length-drop}
-use Rattle.codes.specs.Written.{Wrote}
+use Rattle.std.proofs.Common.{◌≡◌, take, drop, arith, length-drop}
 use Rattle.codes.proofs.Bits.{number_lt, bits-number}
 use Rattle.codes.proofs.BitsWritten.{wrote_nothing, wrote-both}
 use Rattle.codes.proofs.Layers.{bits-continuations}

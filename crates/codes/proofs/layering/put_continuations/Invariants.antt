@@ -1,10 +1,7 @@
 -- Before each turn the continuation bits of the first i values are written; a turn puts up to 32 more, as the number that they spell.
-use Rattle.std.proofs.Common.{◌≡◌, ◌-◌, ◌<◌, ◌≤◌, take, drop, arith, length-drop}
+use Rattle.std.proofs.Common.{◌-◌, ◌<◌, ◌≤◌}
 use Rattle.codes.specs.Written.{Wrote}
-use Rattle.codes.proofs.Bits.{number_lt, bits-number}
-use Rattle.codes.proofs.BitsWritten.{wrote_nothing, wrote-both}
-use Rattle.codes.proofs.Layers.{bits-continuations}
-use Rattle.codes.proofs.LayersWritten.{continuations, length-continuations, continuations-add}
+use Rattle.codes.proofs.LayersWritten.{continuations}
 use Rattle.codes.proofs.layering.put_continuations.Given as goal
 
 abbrev pub invariant-loop-i : goal.invariant-loop-i

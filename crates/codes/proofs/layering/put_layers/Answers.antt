@@ -1,7 +1,6 @@
-use Rattle.std.proofs.Common.{◌≡◌, ℕ, ◌+◌, ◌<◌, ◌≤◌, List, [], ◌++◌, length, take, drop, refl, ◌∙◌, append-nil, arith, length-take-le}
+use Rattle.std.proofs.Common.{◌≡◌, ◌+◌, ◌≤◌, [], length, take, refl, ◌∙◌, append-nil, arith, length-take-le}
 use Rattle.codes.specs.Bits.{sum}
-use Rattle.codes.specs.Codes.{rest, chunked, Within}
-use Rattle.codes.specs.Written.{Wrote}
+use Rattle.codes.specs.Codes.{rest}
 use Rattle.codes.proofs.BitsWritten.{wrote_nothing, wrote-both}
 use Rattle.codes.proofs.Layers.{layers-nil, within-rest, within_more}
 use Rattle.codes.proofs.LayersWritten.{length-continuations, rest_sum, layer-room, layer-next}

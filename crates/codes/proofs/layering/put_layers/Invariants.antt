@@ -1,12 +1,8 @@
 -- What is written and the code of the values left make the whole code; the values left, with their sum, get less.
-use Rattle.std.proofs.Common.{◌≡◌, ℕ, ◌+◌, ◌<◌, ◌≤◌, List, [], ◌++◌, length, take, drop, refl, ◌∙◌, append-nil, arith, length-take-le}
+use Rattle.std.proofs.Common.{◌≡◌, ℕ, ◌+◌, ◌<◌, ◌≤◌, List, ◌++◌, length, take, drop}
 use Rattle.codes.specs.Bits.{sum}
-use Rattle.codes.specs.Codes.{rest, chunked, Within}
+use Rattle.codes.specs.Codes.{chunked, Within}
 use Rattle.codes.specs.Written.{Wrote}
-use Rattle.codes.proofs.BitsWritten.{wrote_nothing, wrote-both}
-use Rattle.codes.proofs.Layers.{layers-nil, within-rest, within_more}
-use Rattle.codes.proofs.LayersWritten.{length-continuations, rest_sum, layer-room, layer-next}
-use Rattle.codes.proofs.Lists.{drop-later}
 use Rattle.codes.proofs.layering.put_layers.Given as goal
 
 abbrev pub invariant-loop-left : goal.invariant-loop-left

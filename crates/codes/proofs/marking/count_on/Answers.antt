@@ -1,5 +1,5 @@
 -- Where there is a mark, the nearer of it and what is known is counted on, and what that gives is kept; past the marks what is known is.
-use Rattle.std.proofs.Common.{◌∙◌, arith, length-set, rules}
+use Rattle.std.proofs.Common.{◌∙◌, arith, length-set}
 use Rattle.codes.specs.Bits.{bits_of}
 use Rattle.codes.proofs.Marks.{marks-kept}
 use Rattle.codes.proofs.marking.count_on.Goals as goal

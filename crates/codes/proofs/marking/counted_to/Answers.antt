@@ -1,5 +1,5 @@
 -- The ones up to where the mark ends and those that are counted from there on are those up to `to`.
-use Rattle.std.proofs.Common.{refl, arith, rules}
+use Rattle.std.proofs.Common.{refl, arith}
 use Rattle.codes.proofs.Marks.{counted-few, counted-on}
 use Rattle.codes.proofs.marking.counted_to.Goals as goal
 

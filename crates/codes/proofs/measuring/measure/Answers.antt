@@ -1,4 +1,4 @@
-use Rattle.std.proofs.Common.{◌≡◌, ℕ, ◌+◌, ◌-◌, ◌*◌, ◌/◌, ◌%◌, ◌≤◌, List, length, get_or, take, drop, arith}
+use Rattle.std.proofs.Common.{◌≡◌, ℕ, ◌+◌, ◌*◌, ◌/◌, ◌%◌, List, length, get_or, take, drop, arith}
 use Rattle.codes.specs.Measure.{tally, counted}
 use Rattle.codes.proofs.Lists.{zeros-at}
 use Rattle.codes.proofs.Tallies.{tally-le, tally-few, tally-after, tally-quarters}

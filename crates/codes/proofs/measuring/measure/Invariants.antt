@@ -1,8 +1,6 @@
 -- Each array has the tallies of the values passed in its quarter.
-use Rattle.std.proofs.Common.{◌≡◌, ℕ, ◌+◌, ◌-◌, ◌*◌, ◌/◌, ◌%◌, ◌≤◌, List, length, get_or, take, drop, arith}
-use Rattle.codes.specs.Measure.{tally, counted}
-use Rattle.codes.proofs.Lists.{zeros-at}
-use Rattle.codes.proofs.Tallies.{tally-le, tally-few, tally-after, tally-quarters}
+use Rattle.std.proofs.Common.{◌≡◌, ℕ, ◌+◌, ◌-◌, ◌*◌, ◌≤◌, length, get_or, take, drop}
+use Rattle.codes.specs.Measure.{tally}
 use Rattle.codes.proofs.measuring.measure.Given as goal
 
 abbrev pub invariant-loop-i : goal.invariant-loop-i

@@ -1,6 +1,5 @@
-use Rattle.std.proofs.Common.{◌≡◌, ℕ, ◌+◌, ◌-◌, ◌*◌, ◌^◌, ◌≤◌, List, length, get_or, sym, ap, ◌∙◌, arith, length-set, get_or-set_same}
-use Rattle.codes.specs.Codes.{rest}
-use Rattle.codes.specs.Measure.{counted, Tallied}
+use Rattle.std.proofs.Common.{◌+◌, ◌-◌, length, get_or, sym, ap, ◌∙◌, arith, length-set, get_or-set_same}
+use Rattle.codes.specs.Measure.{counted}
 use Rattle.codes.proofs.Layers.{within_more, rest-none}
 use Rattle.codes.proofs.Lists.{zeros-at}
 use Rattle.codes.proofs.Tallies.{measured-more}

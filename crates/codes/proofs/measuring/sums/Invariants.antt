@@ -1,10 +1,7 @@
 -- From t on each entry counts the values with more bits, and the next one down adds those of width t.
-use Rattle.std.proofs.Common.{◌≡◌, ℕ, ◌+◌, ◌-◌, ◌*◌, ◌^◌, ◌≤◌, List, length, get_or, sym, ap, ◌∙◌, arith, length-set, get_or-set_same}
+use Rattle.std.proofs.Common.{◌≡◌, ℕ, ◌-◌, ◌*◌, ◌^◌, ◌≤◌, List, length, get_or}
 use Rattle.codes.specs.Codes.{rest}
-use Rattle.codes.specs.Measure.{counted, Tallied}
-use Rattle.codes.proofs.Layers.{within_more, rest-none}
-use Rattle.codes.proofs.Lists.{zeros-at}
-use Rattle.codes.proofs.Tallies.{measured-more}
+use Rattle.codes.specs.Measure.{Tallied}
 use Rattle.codes.proofs.measuring.sums.Given as goal
 
 abbrev pub invariant-loop-t : goal.invariant-loop-t

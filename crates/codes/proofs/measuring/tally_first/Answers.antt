@@ -1,4 +1,4 @@
-use Rattle.std.proofs.Common.{◌≡◌, ℕ, ◌-◌, ◌≤◌, length, get_or, take, arith}
+use Rattle.std.proofs.Common.{◌≡◌, arith}
 use Rattle.codes.specs.Measure.{tally}
 use Rattle.codes.proofs.Lists.{zeros-at}
 use Rattle.codes.proofs.Tallies.{tally-few, tally-next}

@@ -1,8 +1,6 @@
 -- After i turns each entry is the tally of the first i values; it is at most i, so one more fits.
-use Rattle.std.proofs.Common.{◌≡◌, ℕ, ◌-◌, ◌≤◌, length, get_or, take, arith}
+use Rattle.std.proofs.Common.{◌≡◌, ℕ, ◌-◌, ◌≤◌, length, get_or, take}
 use Rattle.codes.specs.Measure.{tally}
-use Rattle.codes.proofs.Lists.{zeros-at}
-use Rattle.codes.proofs.Tallies.{tally-few, tally-next}
 use Rattle.codes.proofs.measuring.tally_first.Given as goal
 
 abbrev pub invariant-loop-i : goal.invariant-loop-i

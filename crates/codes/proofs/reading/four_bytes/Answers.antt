@@ -1,5 +1,5 @@
 -- Each byte is below 256, so the sum stays below 2^32, and it is what the 32 bits spell (`number-bytes`).
-use Rattle.std.proofs.Common.{◌≡◌, ◌+◌, get_or, sym, ◌∙◌, add-zero, arith, rules}
+use Rattle.std.proofs.Common.{◌≡◌, ◌+◌, get_or, sym, ◌∙◌, add-zero, arith}
 use Rattle.codes.proofs.Words.{number-bytes}
 use Rattle.codes.proofs.reading.four_bytes.Goals as goal
 

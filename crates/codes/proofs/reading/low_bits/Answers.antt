@@ -1,5 +1,5 @@
 -- 1 shifted up by fewer than 64 bits is 2^w, and one less is the mask of the w lowest bits, which leaves the remainder.
-use Rattle.std.proofs.Common.{refl, mod-lt, pow_pos, rules}
+use Rattle.std.proofs.Common.{refl, mod-lt, pow_pos}
 use lib.Bits.{and_mask}
 use Rattle.codes.proofs.Words.{one_shl}
 use Rattle.codes.proofs.reading.low_bits.Goals as goal

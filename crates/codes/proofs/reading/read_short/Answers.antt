@@ -1,5 +1,5 @@
 -- The w bits lie in the 4 bytes from `first` on; the shift drops those after them, and the w lowest that are left spell the number.
-use Rattle.std.proofs.Common.{◌≡◌, ℕ, ◌+◌, ◌-◌, ◌*◌, ◌≤◌, sym, ◌∙◌, arith, pow_mono, rules}
+use Rattle.std.proofs.Common.{◌≡◌, ℕ, ◌+◌, ◌-◌, ◌*◌, ◌≤◌, sym, ◌∙◌, arith, pow_mono}
 use Rattle.codes.proofs.Words.{read-part}
 use Rattle.codes.proofs.reading.read_short.Goals as goal
 

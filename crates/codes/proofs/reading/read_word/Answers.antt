@@ -1,5 +1,5 @@
 -- The w bits lie in the whole part, where it has fewer than 8 bytes, else in the 8 from `first` on; the shift drops the bits after them.
-use Rattle.std.proofs.Common.{◌≡◌, ℕ, ◌+◌, ◌-◌, ◌*◌, ◌≤◌, length, take, sym, arith, take_all, rules}
+use Rattle.std.proofs.Common.{◌≡◌, ℕ, ◌+◌, ◌-◌, ◌*◌, ◌≤◌, length, take, sym, arith, take_all}
 use Rattle.codes.specs.Bits.{bits_of}
 use Rattle.codes.proofs.Bits.{length-fixed}
 use Rattle.codes.proofs.Words.{read-part}

@@ -1,4 +1,4 @@
-use Rattle.std.proofs.Common.{◌≡◌, ◌-◌, ◌*◌, ◌^◌, ◌<◌, ◌≤◌, length, take, refl, ap, ◌∙◌, zero-add, arith, take_all, pow_mono}
+use Rattle.std.proofs.Common.{◌*◌, ◌^◌, ◌<◌, take, refl, ap, ◌∙◌, zero-add, arith, take_all, pow_mono}
 use Rattle.codes.specs.Bits.{number, bits_of}
 use Rattle.codes.proofs.Bits.{length-fixed}
 use Rattle.codes.proofs.Words.{number-next, part-lt}

@@ -1,8 +1,6 @@
 -- After i turns `acc` is the number that the first i bytes spell; of at most 7 bytes it stays below 2^56.
-use Rattle.std.proofs.Common.{◌≡◌, ◌-◌, ◌*◌, ◌^◌, ◌<◌, ◌≤◌, length, take, refl, ap, ◌∙◌, zero-add, arith, take_all, pow_mono}
+use Rattle.std.proofs.Common.{◌≡◌, ◌-◌, ◌*◌, ◌^◌, ◌<◌, ◌≤◌, length, take}
 use Rattle.codes.specs.Bits.{number, bits_of}
-use Rattle.codes.proofs.Bits.{length-fixed}
-use Rattle.codes.proofs.Words.{number-next, part-lt}
 use Rattle.codes.proofs.reading.short_word.Given as goal
 
 abbrev pub invariant-loop-i : goal.invariant-loop-i

@@ -1,5 +1,5 @@
 -- The first 32 bits, times 2^32, and the 32 bits after them spell the number of all 64 (`number_more`).
-use Rattle.std.proofs.Common.{◌≡◌, ◌+◌, ◌*◌, arith, rules}
+use Rattle.std.proofs.Common.{◌≡◌, ◌+◌, ◌*◌, arith}
 use Rattle.codes.proofs.Words.{number_more}
 use Rattle.codes.proofs.reading.word_at.Goals as goal
 

@@ -1,5 +1,4 @@
-use Rattle.std.proofs.Common.{◌+◌, ◌-◌, ◌<◌, [], refl, arith}
-use Rattle.codes.specs.Written.{Wrote}
+use Rattle.std.proofs.Common.{◌+◌, ◌-◌, refl, arith}
 use Rattle.codes.proofs.BitsWritten.{wrote_nothing, wrote-both, wrote-byte}
 use Rattle.codes.proofs.writing.drain.Goals as goal
 

@@ -1,7 +1,6 @@
 -- Each turn moves eight of the waiting bits into a byte, so what is written stays.
-use Rattle.std.proofs.Common.{◌+◌, ◌-◌, ◌<◌, [], refl, arith}
+use Rattle.std.proofs.Common.{◌<◌, []}
 use Rattle.codes.specs.Written.{Wrote}
-use Rattle.codes.proofs.BitsWritten.{wrote_nothing, wrote-both, wrote-byte}
 use Rattle.codes.proofs.writing.drain.Given as goal
 
 abbrev pub invariant-loop-have : goal.invariant-loop-have

@@ -1,5 +1,5 @@
 -- Four bytes, one after the other, each take eight of the waiting bits, so what is written stays.
-use Rattle.std.proofs.Common.{◌+◌, ◌-◌, ◌/◌, ◌^◌, set, refl, ◌∙◌, div-one, arith, length-set, shr-shr, rules}
+use Rattle.std.proofs.Common.{◌+◌, ◌-◌, ◌/◌, ◌^◌, set, refl, ◌∙◌, div-one, arith, length-set, shr-shr}
 use Rattle.codes.proofs.BitsWritten.{wrote-both, wrote-byte}
 use Rattle.codes.proofs.writing.flush.Goals as goal
 

@@ -1,5 +1,5 @@
 -- A shift within a word keeps the bits that it has room for, and leaves the low ones 0.
-use Rattle.std.proofs.Common.{◌≡◌, ◌+◌, ◌-◌, ◌*◌, ◌%◌, ◌^◌, arith, rules}
+use Rattle.std.proofs.Common.{◌≡◌, ◌+◌, ◌-◌, ◌*◌, ◌%◌, ◌^◌, arith}
 use lib.Bits.{or_shifted}
 use Rattle.codes.proofs.BitsWritten.{shl-mod}
 use Rattle.codes.proofs.writing.join.Goals as goal

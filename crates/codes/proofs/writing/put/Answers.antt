@@ -1,5 +1,5 @@
 -- The bits wait with those that do, and where these are 32 or more the first 32 are stored.
-use Rattle.std.proofs.Common.{◌-◌, append-nil, arith, rules}
+use Rattle.std.proofs.Common.{◌-◌, append-nil, arith}
 use Rattle.codes.specs.Bits.{bits}
 use Rattle.codes.proofs.BitsWritten.{wrote-both, wrote-bits}
 use Rattle.codes.proofs.writing.put.Goals as goal
