@@ -1,4 +1,4 @@
-/* The calls on pin strips, for programs in C. Link with libstrip_c.a, which `rt staticlib strip_c` makes in the repository's
+/* The calls on pin strips, for programs in C. Link with libstrip_c.a, which `tools/build` makes in the repository's
  * folder, under target/staticlib. It needs memcpy and memset from the C library, and nothing else.
  *
  * A list is strike times, unsigned 32-bit milliseconds, none less than the one before; positions run from 0. A strip is bytes

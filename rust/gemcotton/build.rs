@@ -12,6 +12,6 @@ fn main() {
         println!("cargo::rustc-link-search=native={}", folder.display());
         println!("cargo::rustc-link-lib=static=strip_c");
     } else {
-        println!("cargo::error=libstrip_c.a is missing: run `rt staticlib strip_c` in the repository's folder");
+        println!("cargo::error=libstrip_c.a is missing: run `tools/build` in the repository's folder");
     }
 }

@@ -73,7 +73,7 @@
 //!
 //! # Linking
 //!
-//! This package links `target/staticlib/libstrip_c.a`, which `rt staticlib strip_c` makes in the repository's folder.
+//! This package links `target/staticlib/libstrip_c.a`, which `tools/build` makes in the repository's folder.
 //! The archive needs `memcpy` and `memset` from the C library, and nothing else.
 
 #![warn(missing_docs)]
