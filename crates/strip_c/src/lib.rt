@@ -8,7 +8,9 @@ ghost use Rattle.strip.specs.Refusals.{refusal_number, carried as carried_by};
 ghost use Rattle.strip.specs.Calls.{pack_of, pack_output, access_of, search_of, walked, up_to_of, sweep_of, sweep_output, check_of, checked, unpack_of, unpack_output, repeat_of, step_of, next_of};
 ghost use Rattle.strip_c.specs.Numbers.{given as given_by, refused as refused_by, of_walk, of_number, of_sweep, of_repeat, of_step, position_or};
 
-use strip::{Checked, Packed, Ranked, Refusal, Repeated, Stepped, Strip, Swept, Walked, carried, number};
+use strip::{
+    Checked, Packed, Ranked, Refusal, Repeated, Stepped, Strip, Swept, Walked, carried, number,
+};
 
 // 0, what is given and the nodes opened; or the number of a refusal, what it carries and 0.
 #[repr(C)]

@@ -4,7 +4,6 @@ use mathlib.Core.Path.{sym, ap, ◌∙◌}
 use lib.ListN.{length}
 use Rattle.strip.specs.Calls.{checked}
 use Rattle.pinlist.proofs.Listings.{prints-too-long}
-use borrow.Author.Rules.{rules}
 use Rattle.pinlist.proofs.print.Goals as goal
 
 pub write_next-requires : goal.write_next-requires

@@ -3,7 +3,6 @@ use native.Mathlib.Omega.{arith}
 use mathlib.Core.Path.{ap}
 use lib.ListN.{length, length-append, length-take}
 use Rattle.pinlist.proofs.Listings.{printed-short}
-use borrow.Author.Rules.{rules}
 use Rattle.pinlist.proofs.write_next.Goals as goal
 
 pub overflow_add-result : goal.overflow_add-result

@@ -2,7 +2,6 @@
 use mathlib.Core.Path.{sym, ap, ◌∙◌}
 use Rattle.strip.specs.Calls.{checked}
 use Rattle.strip_c.specs.Numbers.{of_number}
-use borrow.Author.Rules.{rules}
 use Rattle.strip_c.proofs.counted.Goals as goal
 
 pub returns-in-Pins : goal.returns-in-Pins

@@ -2,7 +2,6 @@
 use mathlib.Core.Path.{sym, ap, ◌∙◌}
 use Rattle.strip.specs.Calls.{walked}
 use Rattle.strip_c.specs.Numbers.{of_walk}
-use borrow.Author.Rules.{rules}
 use Rattle.strip_c.proofs.found.Goals as goal
 
 pub returns-in-Found : goal.returns-in-Found

@@ -1,7 +1,6 @@
 -- Access promises the answer, and `found` its numbers.
 use mathlib.Core.Path.{ap, ◌∙◌}
 use Rattle.strip_c.specs.Numbers.{of_walk}
-use borrow.Author.Rules.{rules}
 use Rattle.strip_c.proofs.gemcotton_access.Goals as goal
 
 pub returns : goal.returns

@@ -1,7 +1,6 @@
 -- A node's position is what rank gives, and where it gives none the answer is n.
 use mathlib.Core.Path.{sym, ap, ◌∙◌}
 use Rattle.strip_c.specs.Numbers.{position_or}
-use borrow.Author.Rules.{rules}
 use Rattle.strip_c.proofs.gemcotton_rank.Goals as goal
 
 pub returns-in-At : goal.returns-in-At

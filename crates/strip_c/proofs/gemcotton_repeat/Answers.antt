@@ -2,7 +2,6 @@
 use mathlib.Core.Path.{sym, ap, ◌∙◌}
 use Rattle.strip.specs.Calls.{repeated}
 use Rattle.strip_c.specs.Numbers.{of_repeat}
-use borrow.Author.Rules.{rules}
 use Rattle.strip_c.proofs.gemcotton_repeat.Goals as goal
 
 pub returns-in-First : goal.returns-in-First

@@ -1,7 +1,6 @@
 -- Unpack promises the outcome and what it leaves in the output, and `counted` the numbers of the outcome.
 use mathlib.Core.Path.{ap, ◌∙◌}
 use Rattle.strip_c.specs.Numbers.{of_number}
-use borrow.Author.Rules.{rules}
 use Rattle.strip_c.proofs.gemcotton_unpack.Goals as goal
 
 pub returns : goal.returns

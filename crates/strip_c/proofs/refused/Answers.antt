@@ -1,5 +1,4 @@
 -- `number` and `carried` give the number and what the refusal carries, which stand in the answer.
-use borrow.Author.Rules.{rules}
 use Rattle.strip_c.proofs.refused.Goals as goal
 
 pub returns : goal.returns

@@ -3,7 +3,6 @@ use native.Mathlib.Omega.{arith}
 use Prim.Native.Char.{code}
 use Rattle.pinlist.specs.Texts.{ascii, numeral, header}
 use Rattle.pinlist.proofs.Pieces.{puts-on}
-use borrow.Author.Rules.{rules}
 use Rattle.pinlist.proofs.lines.put_header.Goals as goal
 
 pub put-at-requires : goal.put-at-requires

@@ -2,7 +2,6 @@
 use native.Mathlib.Omega.{arith}
 use Rattle.pinlist.specs.Texts.{ascii, line, refusal_line}
 use Rattle.pinlist.proofs.Pieces.{puts-on}
-use borrow.Author.Rules.{rules}
 use Rattle.pinlist.proofs.lines.put_refusal.Goals as goal
 
 pub put-at-requires : goal.put-at-requires

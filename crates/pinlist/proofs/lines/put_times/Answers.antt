@@ -1,10 +1,9 @@
 use native.Mathlib.Omega.{arith}
-use mathlib.Core.Path.{◌≡◌, refl, sym, ◌∙◌}
-use Prim.Native.Nat.{◌+◌, ◌-◌, ◌≤◌}
+use mathlib.Core.Path.{refl, sym, ◌∙◌}
+use Prim.Native.Nat.{◌+◌}
 use native.Mathlib.Nat.{zero-add}
-use lib.ListN.{length, get_or}
+use lib.ListN.{get_or}
 use borrow.Author.Tests.{leb-true, leb-false}
-use Rattle.codes.specs.Lists.{replaced}
 use Rattle.codes.proofs.Promises.{list-laws}
 use Rattle.strip.specs.Calls.{plain_list}
 use Rattle.pinlist.specs.Texts.{line, lines_from}
@@ -38,7 +37,11 @@ loop-k-preserved c =
     )
 
 pub returns-else-end-text : goal.returns-else-end-text
-returns-else-end-text c = record { text_after = c.loop-k.invariant.4; end_value = c.loop-k.invariant.3; le_lines = (omega (arith, leb-false, lines-few (plain_list c.args.s.now) c.args.first c.loop-k.k), omega arith) }
+returns-else-end-text c = record {
+  text_after = c.loop-k.invariant.4;
+  end_value = c.loop-k.invariant.3;
+  le_lines = (omega (arith, leb-false, lines-few (plain_list c.args.s.now) c.args.first c.loop-k.k), omega arith);
+}
 
 pub returns-after-loop-k : goal.returns-after-loop-k
 returns-after-loop-k c = record { text_after = c.loop-k.invariant.4; end_value = c.loop-k.invariant.3; le_lines = (omega arith, omega arith) }

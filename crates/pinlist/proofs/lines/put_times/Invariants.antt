@@ -1,23 +1,17 @@
 -- After k turns the lines of k positions from `first` on stand at the front. Where there may be no room for one more, k is not 0, since the
 -- text is longer than a line.
-use native.Mathlib.Omega.{arith}
-use mathlib.Core.Path.{◌≡◌, refl, sym, ◌∙◌}
+use mathlib.Core.Path.{◌≡◌}
 use Prim.Native.Nat.{◌+◌, ◌-◌, ◌≤◌}
-use native.Mathlib.Nat.{zero-add}
-use lib.ListN.{length, get_or}
-use borrow.Author.Tests.{leb-true, leb-false}
+use lib.ListN.{length}
 use Rattle.codes.specs.Lists.{replaced}
-use Rattle.codes.proofs.Promises.{list-laws}
 use Rattle.strip.specs.Calls.{plain_list}
-use Rattle.pinlist.specs.Texts.{line, lines_from}
-use Rattle.pinlist.proofs.Accesses.{accepted, pins_are}
-use Rattle.pinlist.proofs.Listings.{line-few, lines-few, line-more}
-use Rattle.pinlist.proofs.Pieces.{puts-on}
+use Rattle.pinlist.specs.Texts.{lines_from}
 use Rattle.pinlist.proofs.lines.put_times.Given as goal
 
 abbrev pub invariant-loop-k : goal.invariant-loop-k
 invariant-loop-k l =
-    (l.first + l.k ≤ l.n) × (length l.text ≡ length l.initial.text) × (l.end ≤ length l.text) × (l.end ≡ length (lines_from (plain_list l.s) l.first l.k))
+    (l.first + l.k ≤ l.n) × (length l.text ≡ length l.initial.text) × (l.end ≤ length l.text)
+    × (l.end ≡ length (lines_from (plain_list l.s) l.first l.k))
     × (l.text ≡ replaced l.initial.text 0 (lines_from (plain_list l.s) l.first l.k))
 
 abbrev pub decreases-loop-k : goal.decreases-loop-k
