@@ -1,7 +1,6 @@
 -- The first end is 7 + 5h, where the parts start; a number below 2^64 has a height of at most 64, so that it fits.
 use native.Mathlib.Omega.{arith}
 use Rattle.tree.proofs.Promises.{height-least}
-use borrow.Author.Rules.{rules}
 use Rattle.strip.proofs.layout.no_levels.Goals as goal
 
 pub overflow_mul-levels : goal.overflow_mul-levels

@@ -1,7 +1,6 @@
 -- A time is lower than the one before where it is before that plus 0 (`lower-near`).
 use mathlib.Core.Path.{sym, ◌∙◌}
 use Rattle.strip.proofs.Gaps.{lower-near}
-use borrow.Author.Rules.{rules}
 use Rattle.strip.proofs.lists.first_lower.Goals as goal
 
 pub returns : goal.returns

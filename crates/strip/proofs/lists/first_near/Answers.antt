@@ -1,7 +1,6 @@
 -- A gap of 0 is near where the time is lower than the one before (`lower-near`); any other gap is as `near_or_end` finds it.
 use mathlib.Core.Path.{◌∙◌}
 use Rattle.strip.proofs.Gaps.{lower-near}
-use borrow.Author.Rules.{rules}
 use Rattle.strip.proofs.lists.first_near.Goals as goal
 
 pub returns-then-r-eq0 : goal.returns-then-r-eq0

@@ -1,11 +1,8 @@
 -- No time up to position i - 1 is near, so the first near one is that of the times from i - 1 on; from the last time on there is none.
-use native.Mathlib.Omega.{arith}
-use mathlib.Core.Path.{◌≡◌, sym, ◌∙◌}
-use Prim.Native.Nat.{suc, ◌+◌, ◌-◌, ◌≤◌, ◌<◌, max}
-use lib.ListN.{drop, get_or}
-use borrow.Author.Tests.{ltb-true, ltb-false}
+use mathlib.Core.Path.{◌≡◌}
+use Prim.Native.Nat.{◌+◌, ◌-◌, ◌≤◌, max}
+use lib.ListN.{drop}
 use Rattle.strip.specs.Read.{first_near}
-use Rattle.strip.proofs.Gaps.{gap-here, gap-later, gap-end}
 use Rattle.strip.proofs.lists.near_from_start.Given as goal
 
 abbrev pub invariant-loop-i : goal.invariant-loop-i

@@ -1,12 +1,8 @@
 -- While `any` is 0 no time up to position i - 1 is near, since `any` takes in every `near_bit`; if it is 0 at the end, none is.
-use native.Mathlib.Omega.{arith}
 use mathlib.Core.Path.{◌≡◌}
-use Prim.Native.Nat.{suc, ◌+◌, ◌-◌, ◌≤◌, max}
+use Prim.Native.Nat.{◌+◌, ◌-◌, ◌≤◌, max}
 use lib.ListN.{drop}
-use lib.Bits.{or_add_and, and_le_l, and_le_r}
-use borrow.Author.Tests.{eqb-true}
 use Rattle.strip.specs.Read.{first_near}
-use Rattle.strip.proofs.Gaps.{gap-later, gap-end}
 use Rattle.strip.proofs.lists.none_near.Given as goal
 
 abbrev pub invariant-loop-i : goal.invariant-loop-i

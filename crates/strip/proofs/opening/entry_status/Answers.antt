@@ -3,7 +3,6 @@ use mathlib.Core.Path.{◌≡◌, sym, ◌∙◌}
 use Prim.Native.Nat.{◌*◌}
 use native.Mathlib.Nat.{mul-le-mul_left}
 use native.Mathlib.Omega.{arith}
-use borrow.Author.Rules.{rules}
 use borrow.Author.Tests.{eq-eqb}
 use Rattle.codes.specs.declared.kinds.Kind.TheVariants.{Fixed}
 use Rattle.codes.specs.Bits.{bytes_for}
@@ -15,22 +14,23 @@ use Rattle.strip.proofs.opening.entry_status.Goals as goal
 pub overflow_mul-count : goal.overflow_mul-count
 overflow_mul-count c =
     let fixed-is : kind_of c.args.code ≡ Fixed c.in-Fixed.w = sym c.kind_of-kind.ensures ∙ c.in-Fixed.is in
-    omega (arith, mul-le-mul_left c.args.count (code-known _ _ (fixed-is)).0)
+    omega (arith, mul-le-mul_left c.args.count (code-known _ _ fixed-is).0)
 
 pub overflow_add-count : goal.overflow_add-count
 overflow_add-count c =
     let fixed-is : kind_of c.args.code ≡ Fixed c.in-Fixed.w = sym c.kind_of-kind.ensures ∙ c.in-Fixed.is in
-    omega (arith, mul-le-mul_left c.args.count (code-known _ _ (fixed-is)).0)
+    omega (arith, mul-le-mul_left c.args.count (code-known _ _ fixed-is).0)
 
 pub returns-then-bytes-count : goal.returns-then-bytes-count
 returns-then-bytes-count c =
     let fixed-is : kind_of c.args.code ≡ Fixed c.in-Fixed.w = sym c.kind_of-kind.ensures ∙ c.in-Fixed.is in
-    sym (entry-passes c.args.level c.args.count c.args.code c.args.bytes (rw (fixed-is) (eq-eqb c.args.bytes (bytes_for (c.args.count * c.in-Fixed.w)) (omega arith))))
+    sym (entry-passes c.args.level c.args.count c.args.code c.args.bytes
+    (rw fixed-is (eq-eqb c.args.bytes (bytes_for (c.args.count * c.in-Fixed.w)) (omega arith))))
 
 pub returns-else-bytes-count : goal.returns-else-bytes-count
 returns-else-bytes-count c =
     let fixed-is : kind_of c.args.code ≡ Fixed c.in-Fixed.w = sym c.kind_of-kind.ensures ∙ c.in-Fixed.is in
-    sym (entry-other-length c.args.level c.args.count c.args.code c.args.bytes _ (fixed-is) (λ e. omega arith))
+    sym (entry-other-length c.args.level c.args.count c.args.code c.args.bytes _ fixed-is (λ e. omega arith))
 
 pub returns-in-Chunked : goal.returns-in-Chunked
 returns-in-Chunked c = sym (entry-passes c.args.level c.args.count c.args.code c.args.bytes (rw (sym c.kind_of-kind.ensures ∙ c.in-Chunked.is)))

@@ -1,6 +1,5 @@
 -- At most 65,535 pins have their values in 65,535 entries, and 32,768 to work in are half as many, rounded up, as `pack_in` asks.
 use native.Mathlib.Omega.{arith}
-use borrow.Author.Rules.{rules}
 use Rattle.strip.proofs.packing.pack_long.Goals as goal
 
 pub pack_in-requires : goal.pack_in-requires

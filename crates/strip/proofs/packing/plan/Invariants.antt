@@ -1,16 +1,9 @@
 -- After d turns the first d levels are entered, each with its chosen code and with where a part of the chosen size ends.
-use native.Mathlib.Omega.{arith}
-use mathlib.Core.Path.{◌≡◌, sym, ap, ◌∙◌}
-use Prim.Native.Nat.{suc, ◌+◌, ◌-◌, ◌*◌, ◌/◌, ◌^◌, ◌≤◌}
-use lib.ListN.{length, get_or}
-use Rattle.codes.specs.declared.choosing.Choice.{Choice}
+use mathlib.Core.Path.{◌≡◌}
+use Prim.Native.Nat.{◌+◌, ◌-◌, ◌*◌, ◌^◌, ◌≤◌}
 use Rattle.codes.specs.Codes.{Within}
-use Rattle.codes.specs.Choice.{chosen}
-use Rattle.tree.specs.Levels.{level_values}
 use Rattle.strip.specs.Layout.{parts_start, end_after, entered}
 use Rattle.strip.specs.Image.{code_for, length_for}
-use Rattle.strip.proofs.Layouts.{height_fits, entered-none, entered-next, entered_all, end-start, end-next}
-use Rattle.strip.proofs.Plans.{level-short, level-code, length-chosen, size_small}
 use Rattle.strip.proofs.packing.plan.Given as goal
 
 abbrev pub invariant-loop-d : goal.invariant-loop-d

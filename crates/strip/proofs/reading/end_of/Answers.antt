@@ -1,5 +1,4 @@
 -- Check and unpack test the image; repeat has nothing more to test.
-use borrow.Author.Rules.{rules}
 use Rattle.strip.proofs.reading.end_of.Goals as goal
 
 pub returns-in-Check : goal.returns-in-Check

@@ -1,38 +1,47 @@
 -- The times stand at the front up to where listing ends, and what is told follows from them and from that end.
-use mathlib.Core.Path.{◌≡◌, sym, ap, subst, ◌∙◌}
+use mathlib.Core.Path.{◌≡◌, sym, ap, ◌∙◌}
 use Rattle.codes.proofs.Promises.{list-laws}
-use Rattle.tree.specs.declared.listing.Listed.{Listed}
-use Rattle.tree.specs.Outcomes.{after}
-use Rattle.tree.specs.Listing.{accesses, listed, end_of, Lists}
+use Rattle.tree.specs.Listing.{listed}
 use Rattle.tree.proofs.Promises.{listing-finds}
 use Rattle.strip.specs.Calls.{list_in}
-use Rattle.strip.specs.Read.{gap_or, gap_of, end_in, list_read}
-use Rattle.strip.proofs.Checks.{Front, listed-front, read-lists}
-use borrow.Author.Rules.{rules}
+use Rattle.strip.proofs.Checks.{listed-front, read-lists}
 use Rattle.strip.proofs.reading.read_list.Goals as goal
 
 pub slice_bounds-gap_or-end : goal.slice_bounds-gap_or-end
+unfolding list_in
 slice_bounds-gap_or-end c =
-    let front : (r : Listed) → c.list-listing.result.listed ≡ r → Front c.args.s.now c.args.levels (end_of r c.args.levels.pins) c.list-listing.new.times = λ r e. listed-front c.args.s.now c.args.levels (subst (Lists (accesses c.args.levels c.args.s.now) c.args.levels.pins 0) e c.list-listing.ensures.lists) c.list-listing.ensures.times_after.0 in
-    (front _ c.in-Refused.is).room
+    (listed-front c.args.s.now c.args.levels (rw c.in-Refused.is at c.list-listing.ensures.lists) c.list-listing.ensures.times_after).room
 
 pub slice_bounds-gap_or-end-in-Refused : goal.slice_bounds-gap_or-end-in-Refused
+unfolding list_in
 slice_bounds-gap_or-end-in-Refused c =
-    let front : (r : Listed) → c.list-listing.result.listed ≡ r → Front c.args.s.now c.args.levels (end_of r c.args.levels.pins) c.list-listing.new.times = λ r e. listed-front c.args.s.now c.args.levels (subst (Lists (accesses c.args.levels c.args.s.now) c.args.levels.pins 0) e c.list-listing.ensures.lists) c.list-listing.ensures.times_after.0 in
-    (front _ c.listed.given.1).count
+    (listed-front c.args.s.now c.args.levels (rw c.in-Refused.is at c.list-listing.ensures.lists) c.list-listing.ensures.times_after).count
 
 pub returns-in-All : goal.returns-in-All
 unfolding list_in
 returns-in-All c =
-    let told-lists : (r : Listed) → c.list-listing.result.listed ≡ r → gap_or (gap_of c.args.asked) (list_in c.args.s.now c.args.levels) (after (listed r) (λ _. end_in c.args.asked c.args.s.now c.args.levels)) ≡ list_read c.args.asked c.args.s.now c.args.levels = λ r e. read-lists c.args.s.now c.args.levels c.requires.fact.1 (λ j. (c.shared_slice_known-1.given j).fits) c.args.asked (listed r) (sym (ap listed e) ∙ c.list-listing.ensures.lists.outcome) in
-    let a = (c.before.before).args in
-    let all = c.enum_told.given.1 in let count = listing-finds.count _ a.levels.pins (sym (sym (ap listed all) ∙ c.list.ensures.0.outcome)) in
-    let whole : c.list.new.0 ≡ list_in a.s.now a.levels = c.list.ensures.1.0 ∙ list-laws.filled_whole a.levels.pins (list_in a.s.now a.levels) count in
-    record { result_value = c.gap_or.ensures ∙ rw (c.gap_of.ensures, whole, c.end_of_lem.ensures) (told-lists _ all); times_after = c.list.ensures.1.0 }
+    let s = c.args.s.now in
+    let levels = c.args.levels in
+    let list = c.list-listing in
+    let outcome = sym (ap listed c.in-All.is) ∙ list.ensures.lists.outcome in
+    let whole : list.new.times ≡ list_in s levels =
+    list.ensures.times_after ∙ list-laws.filled_whole levels.pins (list_in s levels) (listing-finds.count _ levels.pins (sym outcome)) in
+    let lists = read-lists s levels c.requires.fact.1 (λ j. (c.type_inv.s j).fits) c.args.asked _ outcome in
+    record {
+      result_value = c.gap_or.ensures ∙ rw (c.gap_of-r.ensures, whole, c.end_of-end.ensures) lists;
+      times_after = list.ensures.times_after;
+    }
 
 pub returns-in-Refused : goal.returns-in-Refused
 unfolding list_in
 returns-in-Refused c =
-    let front : (r : Listed) → c.list-listing.result.listed ≡ r → Front c.args.s.now c.args.levels (end_of r c.args.levels.pins) c.list-listing.new.times = λ r e. listed-front c.args.s.now c.args.levels (subst (Lists (accesses c.args.levels c.args.s.now) c.args.levels.pins 0) e c.list-listing.ensures.lists) c.list-listing.ensures.times_after.0 in
-    let told-lists : (r : Listed) → c.list-listing.result.listed ≡ r → gap_or (gap_of c.args.asked) (list_in c.args.s.now c.args.levels) (after (listed r) (λ _. end_in c.args.asked c.args.s.now c.args.levels)) ≡ list_read c.args.asked c.args.s.now c.args.levels = λ r e. read-lists c.args.s.now c.args.levels c.requires.fact.1 (λ j. (c.shared_slice_known-1.given j).fits) c.args.asked (listed r) (sym (ap listed e) ∙ c.list-listing.ensures.lists.outcome) in
-    let is = c.listed.given.1 in record { result_value = c.gap_or-in-Refused.ensures ∙ rw (c.gap_of.ensures, (front _ is).is, c.of_walk.ensures.0, c.of_walk.ensures.1) (told-lists _ is); times_after = c.list.ensures.1.0 }
+    let s = c.args.s.now in
+    let levels = c.args.levels in
+    let list = c.list-listing in
+    let front = listed-front s levels (rw c.in-Refused.is at list.ensures.lists) list.ensures.times_after in
+    let outcome = sym (ap listed c.in-Refused.is) ∙ list.ensures.lists.outcome in
+    let lists = read-lists s levels c.requires.fact.1 (λ j. (c.type_inv.s j).fits) c.args.asked _ outcome in
+    record {
+      result_value = c.gap_or-in-Refused.ensures ∙ rw (c.gap_of-r.ensures, front.is, c.of_walk.ensures.0, c.of_walk.ensures.1) lists;
+      times_after = list.ensures.times_after;
+    }

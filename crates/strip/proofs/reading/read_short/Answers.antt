@@ -1,5 +1,4 @@
 -- There is an entry for each pin, at the front of new arrays.
-use borrow.Author.Rules.{rules}
 use Rattle.strip.proofs.Pieces.{new-front}
 use Rattle.strip.proofs.reading.read_short.Goals as goal
 
@@ -11,5 +10,6 @@ slice_bounds-read_in-end-2 c = new-front 1023 c.args.levels.pins c.requires.1
 
 pub read_in-requires : goal.read_in-requires
 read_in-requires c =
-    let p = c.requires in let front = new-front 1023 c.args.levels.pins c.requires.1 in
+    let p = c.requires in
+    let front = new-front 1023 c.args.levels.pins c.requires.1 in
     record { fact = p.0; pins_value = (front, front) }

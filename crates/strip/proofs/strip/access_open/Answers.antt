@@ -3,7 +3,6 @@ use native.Mathlib.Omega.{arith}
 use mathlib.Core.Path.{sym, ◌∙◌}
 use borrow.Author.Tests.{lt-leb, le-leb}
 use Rattle.tree.specs.Outcomes.{test}
-use borrow.Author.Rules.{rules}
 use Rattle.strip.proofs.strip.access_open.Goals as goal
 
 pub returns-then-i-levels : goal.returns-then-i-levels

@@ -1,6 +1,5 @@
 -- The answer is that of the tree's search.
 use mathlib.Core.Path.{◌∙◌}
-use borrow.Author.Rules.{rules}
 use Rattle.strip.proofs.strip.search_open.Goals as goal
 
 pub returns : goal.returns

@@ -1,7 +1,6 @@
 -- A refusal keeps its number and what it carries.
 use mathlib.Core.Path.{sym, ap}
 use Rattle.tree.specs.Walks.{walked}
-use borrow.Author.Rules.{rules}
 use Rattle.strip.proofs.strip.walked_of.Goals as goal
 
 pub returns-in-Found : goal.returns-in-Found

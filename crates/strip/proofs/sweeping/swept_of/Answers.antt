@@ -1,7 +1,6 @@
 -- A refusal keeps its number and what it carries.
 use mathlib.Core.Path.{sym, ap}
 use Rattle.tree.specs.Sweeps.{swept}
-use borrow.Author.Rules.{rules}
 use Rattle.strip.proofs.sweeping.swept_of.Goals as goal
 
 pub returns-in-Nodes : goal.returns-in-Nodes

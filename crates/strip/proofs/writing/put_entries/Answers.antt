@@ -1,7 +1,6 @@
 use native.Mathlib.Omega.{arith}
 use mathlib.Core.Path.{◌≡◌, refl, sym, ap, ◌∙◌}
-use Prim.Native.Nat.{◌+◌, ◌-◌, ◌*◌, ◌≤◌}
-use lib.ListN.{length}
+use Prim.Native.Nat.{◌+◌, ◌*◌}
 use Rattle.codes.specs.Lists.{replaced}
 use Rattle.codes.proofs.Promises.{list-laws}
 use Rattle.tree.specs.Shape.{height}
@@ -21,8 +20,8 @@ pub loop-d-preserved : goal.loop-d-preserved
 loop-d-preserved c = (
   omega arith,
   omega arith,
-  c.put_entry.ensures ∙ ap (λ o. replaced o (7 + 5 * c.loop-d.d) (entry_in c.args.t2 c.loop-d.d)) c.loop-d.invariant.2
-      ∙ entries_next c.args.t2 c.args.out.now c.loop-d.d (omega arith),
+  c.put_entry.ensures ∙ ap (λ o. replaced o (7 + 5 * c.loop-d.d) (entry_in c.args.levels c.loop-d.d)) c.loop-d.invariant.2
+      ∙ entries_next c.args.levels c.args.out.now c.loop-d.d (omega arith),
 )
 
 pub returns : goal.returns

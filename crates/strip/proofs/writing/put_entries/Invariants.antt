@@ -1,14 +1,10 @@
 -- After d turns the first d entries, of 5 bytes each, stand from byte 7 on; the ends do not fall, so no length is below 0.
-use native.Mathlib.Omega.{arith}
-use mathlib.Core.Path.{◌≡◌, refl, sym, ap, ◌∙◌}
-use Prim.Native.Nat.{◌+◌, ◌-◌, ◌*◌, ◌≤◌}
+use mathlib.Core.Path.{◌≡◌}
+use Prim.Native.Nat.{◌-◌, ◌≤◌}
 use lib.ListN.{length}
 use Rattle.codes.specs.Lists.{replaced}
-use Rattle.codes.proofs.Promises.{list-laws}
-use Rattle.tree.specs.Shape.{height}
 use Rattle.strip.specs.Image.{joined}
 use Rattle.strip.specs.Written.{entry_in}
-use Rattle.strip.proofs.Pieces.{entries_next}
 use Rattle.strip.proofs.writing.put_entries.Given as goal
 
 abbrev pub invariant-loop-d : goal.invariant-loop-d

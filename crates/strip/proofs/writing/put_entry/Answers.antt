@@ -5,7 +5,6 @@ use Prim.Native.Nat.{suc, ◌+◌}
 use lib.ListN.{length-set}
 use lib.Seq.{sets-eq}
 use Rattle.strip.specs.Layout.{entry}
-use borrow.Author.Rules.{rules}
 use Rattle.strip.proofs.writing.put_entry.Goals as goal
 
 pub bounds-out-at-2 : goal.bounds-out-at-2

@@ -3,7 +3,6 @@ use native.Mathlib.Omega.{arith}
 use lib.ListN.{length-set}
 use lib.Seq.{sets-eq}
 use Rattle.strip.specs.Layout.{header}
-use borrow.Author.Rules.{rules}
 use Rattle.strip.proofs.writing.put_header.Goals as goal
 
 pub bounds-out-1 : goal.bounds-out-1

@@ -1,11 +1,11 @@
 use native.Mathlib.Omega.{arith}
 use mathlib.Core.Path.{◌≡◌, refl, sym, ap, ◌∙◌}
 use mathlib.Core.List.{List, ◌++◌}
-use Prim.Native.Nat.{ℕ, ◌-◌, ◌≤◌}
+use Prim.Native.Nat.{ℕ, ◌-◌}
 use lib.ListN.{length, drop, get_or}
 use borrow.Rule.Slice.PartMut.{mid_of, put_mid, same_len_mid}
 use Rattle.codes.specs.Lists.{replaced}
-use Rattle.codes.specs.Codes.{part, Within}
+use Rattle.codes.specs.Codes.{part}
 use Rattle.codes.proofs.Promises.{list-laws}
 use Rattle.tree.specs.Shape.{height}
 use Rattle.tree.proofs.Promises.{stored-levels}
@@ -19,38 +19,54 @@ use Rattle.strip.proofs.writing.put_parts.Goals as goal
 pub loop-d-init : goal.loop-d-init
 unfolding joined
 loop-d-init c =
-    let p = c.requires.values_len_bound in let h = c.height-h.ensures ∙ ap height (plan-pins c.args.values.now c.args.t4 p.2) in (
+    let p = c.requires.values_len_bound in
+    let h = c.height-h.ensures ∙ ap height (plan-pins c.args.values.now c.args.levels p.2) in (
       omega arith,
       rw h (height_fits (length c.args.values.now) p.0),
       h,
-      λ j. (c.shared_slice_known-1.given j).fits,
+      λ j. (c.type_inv.values j).fits,
       refl,
       refl,
       sym (list-laws.replaced_none c.args.out.now (parts_start (length c.args.values.now))),
     )
 
 pub slice_bounds-encode-count : goal.slice_bounds-encode-count
-slice_bounds-encode-count c = let p = c.requires.values_len_bound in omega (arith, (plan-spot c.args.values.now p.0 c.args.t4 p.2 c.loop-d.d (omega arith)).room)
+slice_bounds-encode-count c =
+    let p = c.requires.values_len_bound in
+    omega (arith, (plan-spot c.args.values.now p.0 c.args.levels p.2 c.loop-d.d (omega arith)).room)
 
-pub UNKNOWN-slice-bounds-encode-start : goal.UNKNOWN-slice-bounds-encode-start
-UNKNOWN-slice-bounds-encode-start c =
-    let a = (begun c.before.before.before).args in
-    let p = (begun c.before.before.before).pre.0 in
-    omega (arith, (plan-spot a.values.now p.0 a.t4 p.2 c.before.before.before.loop.d (omega arith)).room)
+pub slice_bounds-encode-start : goal.slice_bounds-encode-start
+slice_bounds-encode-start c =
+    let p = c.requires.values_len_bound in
+    omega (arith, (plan-spot c.args.values.now p.0 c.args.levels p.2 c.loop-d.d (omega arith)).room)
 
 pub encode-requires : goal.encode-requires
 encode-requires c =
-    let p = c.requires.values_len_bound in let values = c.args.values.now in let d = c.loop-d.d in let k = plan-spot values p.0 c.args.t4 p.2 d (omega arith) in
-    let e = c.level_values.ensures in let q = k.part-is _ e in record { holds = rw (k.code_is, e) (level_holds values c.loop-d.invariant.3 d); values_in_bounds = (rw (q, length-lent c.loop-d.out (get_or c.args.t4.ends d 0)) (omega (arith, k.room)), rw e (omega (arith, stored-levels.half values d))) }
+    let p = c.requires.values_len_bound in
+    let values = c.args.values.now in
+    let d = c.loop-d.d in
+    let k = plan-spot values p.0 c.args.levels p.2 d (omega arith) in
+    let e = c.level_values.ensures in
+    record {
+      holds = rw (k.code_is, e) (level_holds values c.loop-d.invariant.3 d);
+      values_in_bounds = (
+        rw (k.part-is _ e, length-lent c.loop-d.out (get_or c.args.levels.ends d 0)) (omega (arith, k.room)),
+        rw e (omega (arith, stored-levels.half values d)),
+      );
+    }
 
 pub loop-d-preserved : goal.loop-d-preserved
 loop-d-preserved c =
-    let p = c.requires.values_len_bound in let values = c.args.values.now in let d = c.loop-d.d in let at = get_or c.args.t4.ends d 0 in
-    let k = plan-spot values p.0 c.args.t4 p.2 d (omega arith) in
-    let vs = c.level_values.result.now in let q = k.part-is vs c.level_values.ensures in
+    let p = c.requires.values_len_bound in
+    let values = c.args.values.now in
+    let d = c.loop-d.d in
+    let at = get_or c.args.levels.ends d 0 in
+    let k = plan-spot values p.0 c.args.levels p.2 d (omega arith) in
+    let vs = c.level_values.result.now in
+    let q = k.part-is vs c.level_values.ensures in
     let lent = mid_of at (length c.loop-d.out - at) c.loop-d.out in
-    let exit : c.encode.new.out ≡ part (get_or c.args.t4.codes d 0) vs ++ drop c.encode.result lent = c.encode.ensures.out_after.0 in
-    let size : c.encode.result ≡ length (part (get_or c.args.t4.codes d 0) vs) = c.encode.ensures.value in
+    let exit : c.encode.new.out ≡ part (get_or c.args.levels.codes d 0) vs ++ drop c.encode.result lent = c.encode.ensures.out_after in
+    let size : c.encode.result ≡ length (part (get_or c.args.levels.codes d 0) vs) = c.encode.ensures.value in
     let last = exit ∙ ap (λ (x : List ℕ). x ++ drop c.encode.result lent) q ∙ ap (λ (n : ℕ). part_for values d ++ drop n lent) (size ∙ ap length q) in
     let now = ap (put_mid at (length c.loop-d.out - at) c.loop-d.out) last ∙ lent_written c.loop-d.out at (part_for values d) (omega (arith, k.room)) in
     let start = parts_start (length values) in
@@ -59,7 +75,7 @@ loop-d-preserved c =
       c.loop-d.invariant.1,
       c.loop-d.invariant.2,
       c.loop-d.invariant.3,
-      same_len_mid at (length c.loop-d.out - at) c.loop-d.out c.encode.new.out c.encode.auto.0 ∙ c.loop-d.invariant.4,
+      same_len_mid at (length c.loop-d.out - at) c.loop-d.out c.encode.new.out c.encode.auto.out ∙ c.loop-d.invariant.4,
       omega arith,
       now ∙ ap (λ (o : List ℕ). replaced o at (part_for values d)) c.loop-d.invariant.6
           ∙ list-laws.replaced_more c.args.out.now start at before (part_for values d) (sym k.starts) (omega (arith, k.room))
@@ -69,4 +85,4 @@ loop-d-preserved c =
 pub returns : goal.returns
 returns c =
     let all : c.loop-d.d ≡ height (length c.args.values.now) = omega arith in
-    rw (plan-pins c.args.values.now c.args.t4 c.requires.values_len_bound.2) (rw all at c.loop-d.invariant.6)
+    rw (plan-pins c.args.values.now c.args.levels c.requires.values_len_bound.2) (rw all at c.loop-d.invariant.6)

@@ -1,21 +1,13 @@
 -- After d turns the parts of the first d levels stand after the entries. The plan says where the next one starts and that there is room for
 -- it, and a level has at most half of the values, rounded up, for which `work` is long enough.
-use native.Mathlib.Omega.{arith}
-use mathlib.Core.Path.{◌≡◌, refl, sym, ap, ◌∙◌}
-use mathlib.Core.List.{List, ◌++◌}
-use Prim.Native.Nat.{ℕ, ◌-◌, ◌≤◌}
-use lib.ListN.{length, drop, get_or}
-use borrow.Rule.Slice.PartMut.{mid_of, put_mid, same_len_mid}
+use mathlib.Core.Path.{◌≡◌}
+use Prim.Native.Nat.{◌-◌, ◌≤◌}
+use lib.ListN.{length}
 use Rattle.codes.specs.Lists.{replaced}
-use Rattle.codes.specs.Codes.{part, Within}
-use Rattle.codes.proofs.Promises.{list-laws}
+use Rattle.codes.specs.Codes.{Within}
 use Rattle.tree.specs.Shape.{height}
-use Rattle.tree.proofs.Promises.{stored-levels}
 use Rattle.strip.specs.Layout.{parts_start}
 use Rattle.strip.specs.Image.{part_for, joined}
-use Rattle.strip.proofs.Layouts.{height_fits}
-use Rattle.strip.proofs.Plans.{plan-pins, plan-spot, level_holds}
-use Rattle.strip.proofs.Pieces.{joined-next, length-lent, lent_written}
 use Rattle.strip.proofs.writing.put_parts.Given as goal
 
 abbrev pub invariant-loop-d : goal.invariant-loop-d

@@ -11,7 +11,6 @@ use Rattle.strip.specs.Image.{part_for, joined}
 use Rattle.strip.specs.Written.{entry_in}
 use Rattle.strip.proofs.Layouts.{height_fits}
 use Rattle.strip.proofs.Plans.{plan-pins, plan-at, length-strip, strip-written}
-use borrow.Author.Rules.{rules}
 use Rattle.strip.proofs.writing.put_strip.Goals as goal
 
 pub put_header-requires : goal.put_header-requires
@@ -19,15 +18,19 @@ put_header-requires c = omega (arith, length-strip c.args.values.now)
 
 pub put_entries-requires : goal.put_entries-requires
 put_entries-requires c =
-    let p = c.requires.values_len_bound in let values = c.args.values.now in let n = plan-pins values c.args.levels p.2 in
+    let p = c.requires.values_len_bound in
+    let values = c.args.values.now in
+    let n = plan-pins values c.args.levels p.2 in
     let in_order : (d : ℕ) → d < height c.args.levels.pins → get_or c.args.levels.ends d 0 ≤ get_or c.args.levels.ends (d + 1) 0 =
     λ d h. let k = plan-at values p.0 d (rw n at h) in rw p.2 (omega (arith, k.starts, k.ends_at)) in
     record { pins_bound = (rw n (height_fits (length values) p.0), rw n (omega (arith, length-strip values))); by_index = in_order }
 
 pub returns : goal.returns
 returns c =
-    let n = c.args.levels.pins in let h = height n in
+    let n = c.args.levels.pins in
+    let h = height n in
+    let p = c.requires.values_len_bound in
     c.put_parts.ensures
     ∙ ap (λ (o : List ℕ). replaced o (parts_start n) (joined (part_for c.args.values.now) h)) c.put_entries.ensures
     ∙ ap (λ (o : List ℕ). replaced (replaced o 7 (joined (entry_in c.args.levels) h)) (parts_start n) (joined (part_for c.args.values.now) h)) c.put_header.ensures
-    ∙ strip-written c.args.values.now c.requires.values_len_bound.0 c.args.levels c.requires.values_len_bound.2 c.args.out.now c.requires.values_in_bounds
+    ∙ strip-written c.args.values.now p.0 c.args.levels p.2 c.args.out.now c.requires.values_in_bounds

@@ -2,7 +2,6 @@
 use mathlib.Core.Path.{refl}
 use Rattle.strip.specs.Calls.{step_of, next_of}
 use Rattle.strip.proofs.Openings.{opening-is}
-use borrow.Author.Rules.{rules}
 use Rattle.strip.proofs.strip.Strip.step.Goals as goal
 
 pub step_open-requires : goal.step_open-requires
@@ -10,8 +9,13 @@ step_open-requires c = rw c.in-Open.is at c.opening_of-opening.ensures.fits_open
 
 pub returns-in-Open : goal.returns-in-Open
 unfolding step_of next_of
-returns-in-Open c = rw (opening-is c.args.s.now c.opening_of-opening.result _ c.opening_of-opening.ensures.result_value c.in-Open.is) c.step_open.ensures
+returns-in-Open c =
+    let o = c.opening_of-opening in
+    rw (opening-is c.args.s.now o.result _ o.ensures.result_value c.in-Open.is) c.step_open.ensures
 
 pub returns-in-Refused : goal.returns-in-Refused
 unfolding step_of next_of
-returns-in-Refused c = rw (opening-is c.args.s.now c.opening_of-opening.result _ c.opening_of-opening.ensures.result_value c.in-Refused.is) (refl, refl)
+returns-in-Refused c =
+    let o = c.opening_of-opening in
+    rw (opening-is c.args.s.now o.result _ o.ensures.result_value c.in-Refused.is)
+    (record { step_value = refl; next_value = refl })
