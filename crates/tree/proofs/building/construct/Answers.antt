@@ -4,7 +4,6 @@ use lib.ListN.{length}
 use Rattle.tree.proofs.Stretches.{stretch-root}
 use Rattle.tree.proofs.Contents.{above_root}
 use Rattle.tree.proofs.Fills.{filled-all}
-use borrow.Author.Rules.{rules}
 use Rattle.tree.proofs.building.construct.Goals as goal
 
 pub fill-requires : goal.fill-requires

@@ -8,69 +8,70 @@ use Rattle.tree.specs.Shape.{child_of}
 use Rattle.tree.specs.Standing.{StretchIs}
 use Rattle.tree.proofs.Stretches.{few-side}
 use Rattle.tree.proofs.Fills.{filled-node, filled-past, filled-leaf, fill-node, one_time, few-time, above-side}
-use borrow.Author.Rules.{rules}
 use Rattle.tree.proofs.building.fill_few.Goals as goal
 
 pub returns-then-pins-eq0 : goal.returns-then-pins-eq0
-returns-then-pins-eq0 c = let p = c.requires.times_in_bounds in filled-past c.args.times.now p.0.1 p.1.0 c.if-pins-eq0.true c.args.values.now
+returns-then-pins-eq0 c = let p = c.requires in filled-past c.args.times.now p.times_in_bounds.1 p.stretch_is.0 c.if-pins-eq0.true c.args.values.now
 
 pub fill_node-requires : goal.fill_node-requires
-fill_node-requires c = let q = c.requires.times_in_bounds in record { t = c.requires.t; times_in_bounds = (q.0.0, q.0.1, fill-node c.args.times.now q.0.1 q.1.0 (omega arith), omega arith); at_value = (one_time c.args.times.now q.0.1 q.1.0 (omega arith), q.1.2) }
+fill_node-requires c = let q = c.requires in record { t = c.requires.t; times_in_bounds = (q.times_in_bounds.0, q.times_in_bounds.1, fill-node c.args.times.now q.times_in_bounds.1 q.stretch_is.0 (omega arith), omega arith); at_value = (one_time c.args.times.now q.times_in_bounds.1 q.stretch_is.0 (omega arith), q.stretch_is.2) }
 
 pub returns-then-pins-eq1 : goal.returns-then-pins-eq1
-returns-then-pins-eq1 c = let p = c.requires.times_in_bounds in filled-leaf c.args.times.now p.0.1 p.1.0 (omega arith) p.0.0 c.fill_node.ensures.values_after
+returns-then-pins-eq1 c = let p = c.requires in filled-leaf c.args.times.now p.times_in_bounds.1 p.stretch_is.0 (omega arith) p.times_in_bounds.0 c.fill_node.ensures.values_after
 
 pub fill_node-time-requires : goal.fill_node-time-requires
-fill_node-time-requires c = let q = c.requires.times_in_bounds in record { t = c.requires.t; times_in_bounds = (q.0.0, q.0.1, fill-node c.args.times.now q.0.1 q.1.0 (omega arith), omega arith); at_value = (few-time c.args.times.now q.0.1 q.1.0 (omega arith) (omega arith), q.1.2) }
+fill_node-time-requires c = let q = c.requires in record { t = c.requires.t; times_in_bounds = (q.times_in_bounds.0, q.times_in_bounds.1, fill-node c.args.times.now q.times_in_bounds.1 q.stretch_is.0 (omega arith), omega arith); at_value = (few-time c.args.times.now q.times_in_bounds.1 q.stretch_is.0 (omega arith) (omega arith), q.stretch_is.2) }
 
 pub overflow_mul-v : goal.overflow_mul-v
 overflow_mul-v c =
-    let node : c.args.v ≤ length c.args.times.now = let p = c.requires.times_in_bounds in fill-node c.args.times.now p.0.1 p.1.0 (omega arith) in
+    let node : c.args.v ≤ length c.args.times.now = let p = c.requires in fill-node c.args.times.now p.times_in_bounds.1 p.stretch_is.0 (omega arith) in
     omega (arith, node)
 
 pub fill_node-requires-2 : goal.fill_node-requires-2
 unfolding child_of
 fill_node-requires-2 c =
-    let left : StretchIs (length c.args.times.now) (2 * c.args.v) c.args.start 1 = let p = c.requires.times_in_bounds in few-side false (length c.args.times.now) p.0.1 p.1.0 (omega arith) (omega arith) in
+    let left : StretchIs (length c.args.times.now) (2 * c.args.v) c.args.start 1 = let p = c.requires in few-side false (length c.args.times.now) p.times_in_bounds.1 p.stretch_is.0 (omega arith) (omega arith) in
     let s = left in
-    record { t = c.requires.t; times_in_bounds = (omega (arith, c.requires.times_in_bounds.0.0), omega (arith, c.requires.times_in_bounds.0.1), fill-node c.args.times.now (omega (arith, c.requires.times_in_bounds.0.1)) s (omega arith), omega arith); at_value = (one_time c.args.times.now (omega (arith, c.requires.times_in_bounds.0.1)) s refl, above-side false c.args.times.now c.args.v c.requires.times_in_bounds.0.1 ∙ sym c.fill_node-time.ensures.value) }
+    record { t = c.requires.t; times_in_bounds = (omega (arith, c.requires.times_in_bounds.0), omega (arith, c.requires.times_in_bounds.1), fill-node c.args.times.now (omega (arith, c.requires.times_in_bounds.1)) s (omega arith), omega arith); at_value = (one_time c.args.times.now (omega (arith, c.requires.times_in_bounds.1)) s refl, above-side false c.args.times.now c.args.v c.requires.times_in_bounds.1 ∙ sym c.fill_node-time.ensures.value) }
 
 pub overflow_mul-v-then-pins-eq3 : goal.overflow_mul-v-then-pins-eq3
 overflow_mul-v-then-pins-eq3 c =
-    let node : c.args.v ≤ length c.args.times.now = let p = c.requires.times_in_bounds in fill-node c.args.times.now p.0.1 p.1.0 (omega arith) in
+    let node : c.args.v ≤ length c.args.times.now = let p = c.requires in fill-node c.args.times.now p.times_in_bounds.1 p.stretch_is.0 (omega arith) in
     omega (arith, node)
 
 pub overflow_add-v : goal.overflow_add-v
 overflow_add-v c =
-    let node : c.args.v ≤ length c.args.times.now = let p = c.requires.times_in_bounds in fill-node c.args.times.now p.0.1 p.1.0 (omega arith) in
+    let node : c.args.v ≤ length c.args.times.now = let p = c.requires in fill-node c.args.times.now p.times_in_bounds.1 p.stretch_is.0 (omega arith) in
     omega (arith, node)
 
 pub fill_node-requires-then-pins-eq3 : goal.fill_node-requires-then-pins-eq3
 unfolding child_of
 fill_node-requires-then-pins-eq3 c =
-    let right : StretchIs (length c.args.times.now) (2 * c.args.v + 1) (c.args.start + 2) (c.args.pins - 2) = let p = c.requires.times_in_bounds in few-side true (length c.args.times.now) p.0.1 p.1.0 (omega arith) (omega arith) in
+    let right : StretchIs (length c.args.times.now) (2 * c.args.v + 1) (c.args.start + 2) (c.args.pins - 2) = let p = c.requires in few-side true (length c.args.times.now) p.times_in_bounds.1 p.stretch_is.0 (omega arith) (omega arith) in
     let s = right in
-    record { t = c.requires.t; times_in_bounds = (omega (arith, c.requires.times_in_bounds.0.0), omega arith, fill-node c.args.times.now (omega arith) s (omega arith), omega arith); at_value = (one_time c.args.times.now (omega arith) s (omega arith), above-side true c.args.times.now c.args.v c.requires.times_in_bounds.0.1 ∙ sym c.fill_node-time.ensures.value) }
+    record { t = c.requires.t; times_in_bounds = (omega (arith, c.requires.times_in_bounds.0), omega arith, fill-node c.args.times.now (omega arith) s (omega arith), omega arith); at_value = (one_time c.args.times.now (omega arith) s (omega arith), above-side true c.args.times.now c.args.v c.requires.times_in_bounds.1 ∙ sym c.fill_node-time.ensures.value) }
 
 pub returns-then-pins-eq3 : goal.returns-then-pins-eq3
+unfolding child_of
 returns-then-pins-eq3 c =
-    let node : c.args.v ≤ length c.args.times.now = let p = c.requires.times_in_bounds in fill-node c.args.times.now p.0.1 p.1.0 (omega arith) in
-    let left : StretchIs (length c.args.times.now) (2 * c.args.v) c.args.start 1 = let p = c.requires.times_in_bounds in few-side false (length c.args.times.now) p.0.1 p.1.0 (omega arith) (omega arith) in
-    let right : StretchIs (length c.args.times.now) (2 * c.args.v + 1) (c.args.start + 2) (c.args.pins - 2) = let p = c.requires.times_in_bounds in few-side true (length c.args.times.now) p.0.1 p.1.0 (omega arith) (omega arith) in
-    let p = c.requires.times_in_bounds in let k = node in
+    let node : c.args.v ≤ length c.args.times.now = let p = c.requires in fill-node c.args.times.now p.times_in_bounds.1 p.stretch_is.0 (omega arith) in
+    let left : StretchIs (length c.args.times.now) (2 * c.args.v) c.args.start 1 = let p = c.requires in few-side false (length c.args.times.now) p.times_in_bounds.1 p.stretch_is.0 (omega arith) (omega arith) in
+    let right : StretchIs (length c.args.times.now) (2 * c.args.v + 1) (c.args.start + 2) (c.args.pins - 2) = let p = c.requires in few-side true (length c.args.times.now) p.times_in_bounds.1 p.stretch_is.0 (omega arith) (omega arith) in
+    let p = c.requires in let k = node in
     let l = left in
     let r = right in
-    filled-node c.args.times.now c.args.v c.args.values.now c.fill_node-time.new.0 c.fill_node-2.new.values c.fill_node-then-pins-eq3.new.values p.0.1 k (omega (arith, k)) c.fill_node-time.ensures.values_after
-    (filled-leaf c.args.times.now (omega (arith, p.0.1)) l refl (omega (arith, p.0.0)) c.fill_node-2.ensures.values_after)
-    (filled-leaf c.args.times.now (omega arith) r (omega arith) (omega (arith, p.0.0)) c.fill_node-then-pins-eq3.ensures.values_after)
+    filled-node c.args.times.now c.args.v c.args.values.now c.fill_node-time.new.values c.fill_node-2.new.values c.fill_node-then-pins-eq3.new.values p.times_in_bounds.1 k (omega (arith, k)) c.fill_node-time.ensures.values_after
+    (filled-leaf c.args.times.now (omega (arith, p.times_in_bounds.1)) l refl (omega (arith, p.times_in_bounds.0)) c.fill_node-2.ensures.values_after)
+    (filled-leaf c.args.times.now (omega arith) r (omega arith) (omega (arith, p.times_in_bounds.0)) c.fill_node-then-pins-eq3.ensures.values_after)
 
 pub returns-else-pins-eq3 : goal.returns-else-pins-eq3
+unfolding child_of
 returns-else-pins-eq3 c =
-    let node : c.args.v ≤ length c.args.times.now = let p = c.requires.times_in_bounds in fill-node c.args.times.now p.0.1 p.1.0 (omega arith) in
-    let left : StretchIs (length c.args.times.now) (2 * c.args.v) c.args.start 1 = let p = c.requires.times_in_bounds in few-side false (length c.args.times.now) p.0.1 p.1.0 (omega arith) (omega arith) in
-    let right : StretchIs (length c.args.times.now) (2 * c.args.v + 1) (c.args.start + 2) (c.args.pins - 2) = let p = c.requires.times_in_bounds in few-side true (length c.args.times.now) p.0.1 p.1.0 (omega arith) (omega arith) in
-    let p = c.requires.times_in_bounds in let k = node in
+    let node : c.args.v ≤ length c.args.times.now = let p = c.requires in fill-node c.args.times.now p.times_in_bounds.1 p.stretch_is.0 (omega arith) in
+    let left : StretchIs (length c.args.times.now) (2 * c.args.v) c.args.start 1 = let p = c.requires in few-side false (length c.args.times.now) p.times_in_bounds.1 p.stretch_is.0 (omega arith) (omega arith) in
+    let right : StretchIs (length c.args.times.now) (2 * c.args.v + 1) (c.args.start + 2) (c.args.pins - 2) = let p = c.requires in few-side true (length c.args.times.now) p.times_in_bounds.1 p.stretch_is.0 (omega arith) (omega arith) in
+    let p = c.requires in let k = node in
     let l = left in
     let r = right in
-    filled-node c.args.times.now c.args.v c.args.values.now c.fill_node-time.new.0 c.fill_node-2.new.values c.fill_node-2.new.values p.0.1 k (omega (arith, k)) c.fill_node-time.ensures.values_after
-    (filled-leaf c.args.times.now (omega (arith, p.0.1)) l refl (omega (arith, p.0.0)) c.fill_node-2.ensures.values_after) (filled-past c.args.times.now (omega arith) r (omega arith) c.fill_node-2.new.values)
+    filled-node c.args.times.now c.args.v c.args.values.now c.fill_node-time.new.values c.fill_node-2.new.values c.fill_node-2.new.values p.times_in_bounds.1 k (omega (arith, k)) c.fill_node-time.ensures.values_after
+    (filled-leaf c.args.times.now (omega (arith, p.times_in_bounds.1)) l refl (omega (arith, p.times_in_bounds.0)) c.fill_node-2.ensures.values_after) (filled-past c.args.times.now (omega arith) r (omega arith) c.fill_node-2.new.values)

@@ -2,7 +2,6 @@
 use native.Mathlib.Omega.{arith}
 use lib.ListN.{length}
 use lib.Pow.{pow_pos}
-use borrow.Author.Rules.{rules}
 use Rattle.tree.proofs.NodeFetches.{count-between}
 use Rattle.tree.proofs.Heights.{level-starts, height-le}
 use Rattle.tree.proofs.building.level_values.Goals as goal
@@ -25,8 +24,8 @@ offset_bounds-values-first c = omega (arith, level-starts (length c.args.values.
 pub slice_bounds-result-count : goal.slice_bounds-result-count
 slice_bounds-result-count c = omega (arith, level-starts (length c.args.values.now) c.args.depth (omega arith))
 
-pub UNKNOWN-slice-bounds-result-start : goal.UNKNOWN-slice-bounds-result-start
-UNKNOWN-slice-bounds-result-start c = omega (arith, level-starts (length c.before.before.before.args.values.now) c.before.before.before.args.depth (omega arith))
+pub slice_bounds-result-start : goal.slice_bounds-result-start
+slice_bounds-result-start c = omega (arith, level-starts (length c.args.values.now) c.args.depth (omega arith))
 
 pub returns : goal.returns
 returns c = rw (count-between (length c.args.values.now) c.args.depth c.power_of_two-first.result c.least-last.result c.power_of_two-first.ensures c.least-last.ensures, c.power_of_two-first.ensures)

@@ -1,17 +1,22 @@
 use native.Mathlib.Omega.{arith}
 use mathlib.Core.Path.{◌≡◌, refl, sym, ap, ◌∙◌}
-use mathlib.Core.Bool.{true}
-use Prim.Native.Nat.{◌+◌, ◌-◌, ◌^◌, ◌≤◌, ◌<◌}
+use mathlib.Core.List.{List}
+use Prim.Native.Nat.{ℕ, ◌+◌, ◌-◌, ◌^◌, ◌≤◌, ◌<◌}
 use lib.ListN.{length, get_or, length-take}
-use borrow.Author.Tests.{not-true, not-false}
 use Rattle.tree.specs.Shape.{height}
-use Rattle.tree.specs.Levels.{code_of, part_of, level_values}
+use Rattle.tree.specs.declared.nodes.Levels.{Levels}
+use Rattle.tree.specs.Levels.{Fits, code_of, part_of, level_values}
 use Rattle.tree.specs.Chosen.{chosen_by, level_chosen, chosen_to}
 use Rattle.tree.proofs.NodeFetches.{pins-bound}
 use Rattle.tree.proofs.LevelValues.{level-half}
 use Rattle.tree.proofs.AllValues.{values-count, decoded-values, level-decodes}
 use Rattle.tree.proofs.LevelsChosen.{chosen-next, chosen-not}
 use Rattle.tree.proofs.decoding.are_chosen.Goals as goal
+
+-- a level lies in the bytes
+in-bytes : (levels : Levels) (s : List ℕ) → Fits levels s → (d : ℕ) → d < height levels.pins
+    → (get_or levels.ends d 0 ≤ get_or levels.ends (d + 1) 0) × (get_or levels.ends (d + 1) 0 ≤ length s) × (get_or levels.ends (d + 1) 0 - get_or levels.ends d 0 < 2 ^ 32)
+in-bytes levels s f d h = (f.in_order d h, f.inside d h, f.short d h)
 
 pub loop-d-init : goal.loop-d-init
 unfolding chosen_to
@@ -24,32 +29,33 @@ level_values-requires c =
 
 pub slice_bounds-is_chosen-count : goal.slice_bounds-is_chosen-count
 slice_bounds-is_chosen-count c =
-    let lies : let d = c.loop-d.d in (get_or c.args.t3.ends d 0 ≤ get_or c.args.t3.ends (d + 1) 0) × (get_or c.args.t3.ends (d + 1) 0 ≤ length c.args.s.now) × (get_or c.args.t3.ends (d + 1) 0 - get_or c.args.t3.ends d 0 < 2 ^ 32) = let f = c.requires.0 in let d = c.loop-d.d in let h : d < height c.args.levels.pins = omega arith in (f.in_order d h, f.inside d h, f.short d h) in
+    let lies = in-bytes c.args.levels c.args.s.now c.requires.0 c.loop-d.d (omega arith) in
     omega (arith, lies)
-
-pub UNKNOWN-slice-bounds-is-chosen-start : goal.UNKNOWN-slice-bounds-is-chosen-start
-UNKNOWN-slice-bounds-is-chosen-start c = omega (arith, lies c.before.before.before.before)
-
-pub UNKNOWN-slice-bounds-is-chosen-end : goal.UNKNOWN-slice-bounds-is-chosen-end
-UNKNOWN-slice-bounds-is-chosen-end c = omega (arith, lies c.before.before.before.before)
 
 pub is_chosen-requires : goal.is_chosen-requires
 is_chosen-requires c =
     let count : length c.args.values.now ≡ c.args.levels.pins = values-count c.args.levels c.args.s.now c.args.values.now c.requires.1 in
-    let lies : let d = c.loop-d.d in (get_or c.args.t3.ends d 0 ≤ get_or c.args.t3.ends (d + 1) 0) × (get_or c.args.t3.ends (d + 1) 0 ≤ length c.args.s.now) × (get_or c.args.t3.ends (d + 1) 0 - get_or c.args.t3.ends d 0 < 2 ^ 32) = let f = c.requires.0 in let d = c.loop-d.d in let h : d < height c.args.levels.pins = omega arith in (f.in_order d h, f.inside d h, f.short d h) in
-    let d = c.loop-d.d in let own = level-decodes c.args.t3 c.args.s.now c.args.values.now c.requires.1 d (omega arith) in
-    let few : length (level_values c.args.values.now d) < 2 ^ 32 = omega (arith, level-half c.args.values.now d, count, pins-bound c.args.t3 c.args.s.now c.requires.0) in
-    rw c.level_values.ensures ((few, simp length-take (omega (arith, lies))), own)
+    let lies = in-bytes c.args.levels c.args.s.now c.requires.0 c.loop-d.d (omega arith) in
+    let d = c.loop-d.d in
+    let own = level-decodes c.args.levels c.args.s.now c.args.values.now c.requires.1 d (omega arith) in
+    let few : length (level_values c.args.values.now d) < 2 ^ 32 = omega (arith, level-half c.args.values.now d, count, pins-bound c.args.levels c.args.s.now c.requires.0) in
+    rw c.level_values.ensures (record { values_len_bound = (few, simp length-take (omega (arith, lies))); part_value = own })
 
 pub returns-then-not-is_chosen : goal.returns-then-not-is_chosen
 returns-then-not-is_chosen c =
-    let compared : level_chosen c.args.t3 c.args.s.now c.loop-d.d ≡ c.is_chosen.result = let d = c.loop-d.d in ap (chosen_by (code_of c.args.t3 d) (part_of c.args.t3.ends c.args.s.now d)) (decoded-values c.args.t3 c.args.s.now c.args.values.now c.requires.1 d (omega arith)) ∙ sym (rw c.level_values.ensures at c.is_chosen.ensures) in
-    let d = c.loop-d.d in sym (chosen-not c.args.t3 c.args.s.now d (height c.args.t3.pins) (omega arith) (compared ∙ not-true _ c.if-not-is_chosen.true))
+    let d = c.loop-d.d in
+    let compared : level_chosen c.args.levels c.args.s.now d ≡ c.is_chosen.result =
+    ap (chosen_by (code_of c.args.levels d) (part_of c.args.levels.ends c.args.s.now d)) (decoded-values c.args.levels c.args.s.now c.args.values.now c.requires.1 d (omega arith))
+    ∙ sym (rw c.level_values.ensures at c.is_chosen.ensures) in
+    sym (chosen-not c.args.levels c.args.s.now d (height c.args.levels.pins) (omega arith) (compared ∙ c.if-not-is_chosen.true))
 
 pub loop-d-preserved : goal.loop-d-preserved
 loop-d-preserved c =
-    let compared : level_chosen c.args.t3 c.args.s.now c.loop-d.d ≡ c.is_chosen.result = let d = c.loop-d.d in ap (chosen_by (code_of c.args.t3 d) (part_of c.args.t3.ends c.args.s.now d)) (decoded-values c.args.t3 c.args.s.now c.args.values.now c.requires.1 d (omega arith)) ∙ sym (rw c.level_values.ensures at c.is_chosen.ensures) in
-    let d = c.loop-d.d in (c.loop-d.invariant.0, omega arith, chosen-next c.args.t3 c.args.s.now d c.loop-d.invariant.2 (compared ∙ not-false _ c.if-not-is_chosen.false))
+    let d = c.loop-d.d in
+    let compared : level_chosen c.args.levels c.args.s.now d ≡ c.is_chosen.result =
+    ap (chosen_by (code_of c.args.levels d) (part_of c.args.levels.ends c.args.s.now d)) (decoded-values c.args.levels c.args.s.now c.args.values.now c.requires.1 d (omega arith))
+    ∙ sym (rw c.level_values.ensures at c.is_chosen.ensures) in
+    (c.loop-d.invariant.0, omega arith, chosen-next c.args.levels c.args.s.now d c.loop-d.invariant.2 (compared ∙ c.if-not-is_chosen.false))
 
 pub returns : goal.returns
 returns c =

@@ -1,17 +1,9 @@
 -- Each level is compared by itself; the first that is another decides.
-use native.Mathlib.Omega.{arith}
-use mathlib.Core.Path.{◌≡◌, refl, sym, ap, ◌∙◌}
+use mathlib.Core.Path.{◌≡◌}
 use mathlib.Core.Bool.{true}
-use Prim.Native.Nat.{◌+◌, ◌-◌, ◌^◌, ◌≤◌, ◌<◌}
-use lib.ListN.{length, get_or, length-take}
-use borrow.Author.Tests.{not-true, not-false}
+use Prim.Native.Nat.{◌-◌, ◌≤◌}
 use Rattle.tree.specs.Shape.{height}
-use Rattle.tree.specs.Levels.{code_of, part_of, level_values}
-use Rattle.tree.specs.Chosen.{chosen_by, level_chosen, chosen_to}
-use Rattle.tree.proofs.NodeFetches.{pins-bound}
-use Rattle.tree.proofs.LevelValues.{level-half}
-use Rattle.tree.proofs.AllValues.{values-count, decoded-values, level-decodes}
-use Rattle.tree.proofs.LevelsChosen.{chosen-next, chosen-not}
+use Rattle.tree.specs.Chosen.{chosen_to}
 use Rattle.tree.proofs.decoding.are_chosen.Given as goal
 
 abbrev pub invariant-loop-d : goal.invariant-loop-d

@@ -1,12 +1,8 @@
 -- The root stores its time, and each turn puts one more level between the entries of those above it.
-use native.Mathlib.Omega.{arith}
-use mathlib.Core.Path.{◌≡◌, refl, ◌∙◌}
-use mathlib.Core.Bool.{false≢true}
-use Prim.Native.Nat.{ℕ, ◌+◌, ◌-◌, ◌*◌, ◌≤◌, ◌<◌}
-use lib.ListN.{length, get_or, set, length-set}
-use lib.Seq.{get_or-set_same}
-use borrow.Author.Tests.{not-false}
-use Rattle.tree.proofs.LevelMerges.{span-length, Grown, grown-root, first-odd, grown-next, grown-all, merged-none}
+use mathlib.Core.Path.{◌≡◌}
+use Prim.Native.Nat.{◌+◌, ◌-◌, ◌≤◌, ◌<◌}
+use lib.ListN.{length}
+use Rattle.tree.proofs.LevelMerges.{Grown}
 use Rattle.tree.proofs.merging.merge_levels.Given as goal
 
 abbrev pub invariant-loop-first : goal.invariant-loop-first

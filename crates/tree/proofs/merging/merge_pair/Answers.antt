@@ -1,21 +1,9 @@
 -- The right child is merged first, at the sum, and then the left one by `merge_left`.
 use native.Mathlib.Omega.{arith}
 use mathlib.Core.Path.{◌∙◌}
-use mathlib.Core.Bool.{false≢true}
-use Prim.Native.Nat.{◌*◌}
 use lib.ListN.{length-set}
 use Rattle.tree.proofs.LevelMerges.{merges-right}
-use borrow.Author.Rules.{rules}
 use Rattle.tree.proofs.merging.merge_pair.Goals as goal
-
-pub overflow_sub-parent : goal.overflow_sub-parent
-overflow_sub-parent c = omega (arith, c.slice_known-1.given (2 * c.args.q))
-
-pub returns-then-parent-d : goal.returns-then-parent-d
-returns-then-parent-d c = absurd (false≢true e)
-
-pub overflow_add-times : goal.overflow_add-times
-overflow_add-times c = omega (arith, c.slice_known-1.given (2 * c.args.q))
 
 pub bounds-times-q-3 : goal.bounds-times-q-3
 bounds-times-q-3 c = rw length-set (omega arith)
@@ -24,10 +12,9 @@ pub merge_left-requires : goal.merge_left-requires
 merge_left-requires c = (omega arith, omega arith, rw (length-set, length-set) (omega arith))
 
 pub shape_of-times : goal.shape_of-times
-shape_of-times c = c.merge_left.auto.0 ∙ simp length-set
+shape_of-times c = c.merge_left.auto.times ∙ simp length-set
 
 pub returns : goal.returns
-returns c =
-    let fits = c.slice_known-1.given (2 * c.args.q) in
+returns c = λ e before above odd full room w.
     c.merge_left.ensures e before above odd full room
     (merges-right c.args.stored.now c.args.times.now c.args.q c.requires.0 (omega arith) before above odd full room w)

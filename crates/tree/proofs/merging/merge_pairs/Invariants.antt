@@ -1,10 +1,7 @@
 -- The turns from the last pair to the first merge one pair each, and merges go one after the other.
-use native.Mathlib.Omega.{arith}
-use mathlib.Core.Path.{◌≡◌, refl, ◌∙◌}
-use mathlib.Core.Bool.{false≢true}
-use Prim.Native.Nat.{◌+◌, ◌-◌, ◌*◌, ◌≤◌}
+use mathlib.Core.Path.{◌≡◌}
+use Prim.Native.Nat.{◌*◌, ◌≤◌}
 use lib.ListN.{length}
-use borrow.Author.Tests.{not-false}
 use Rattle.tree.specs.Merged.{Merges}
 use Rattle.tree.proofs.merging.merge_pairs.Given as goal
 

@@ -1,5 +1,5 @@
 use native.Mathlib.Omega.{arith}
-use Rattle.tree.proofs.LevelMerges.{MovedUp, moved_none, moved-next, moved_all}
+use Rattle.tree.proofs.LevelMerges.{moved_none, moved-next, moved_all}
 use Rattle.tree.proofs.merging.move_up.Goals as goal
 
 pub loop-i-init : goal.loop-i-init
@@ -12,4 +12,4 @@ pub shape_of-times : goal.shape_of-times
 shape_of-times c = c.loop-i.invariant.kept
 
 pub returns : goal.returns
-returns c = moved_all c.args.times.now c.args.above c.args.count c.loop-i.i c.loop-i.times stored (omega arith) e c.loop-i.invariant
+returns c = λ stored e. moved_all c.args.times.now c.args.above c.args.count c.loop-i.i c.loop-i.times stored (omega arith) e c.loop-i.invariant

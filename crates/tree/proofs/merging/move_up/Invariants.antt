@@ -1,6 +1,5 @@
 -- A turn moves one entry up; the entries below are as they were.
-use native.Mathlib.Omega.{arith}
-use Rattle.tree.proofs.LevelMerges.{MovedUp, moved_none, moved-next, moved_all}
+use Rattle.tree.proofs.LevelMerges.{MovedUp}
 use Rattle.tree.proofs.merging.move_up.Given as goal
 
 abbrev pub invariant-loop-i : goal.invariant-loop-i

@@ -8,7 +8,6 @@ use Rattle.tree.specs.Levels.{count_of, levels_of}
 use Rattle.tree.specs.Outcomes.{gives}
 use Rattle.tree.specs.Times.{under}
 use Rattle.tree.proofs.NodeFetches.{fetched-from, Level, level-fits, index_below, part-short, node-inside}
-use borrow.Author.Rules.{rules}
 use Rattle.tree.proofs.nodes.open_node.Goals as goal
 
 pub offset_bounds-ends-depth : goal.offset_bounds-ends-depth
@@ -46,11 +45,15 @@ slice_bounds-fetch_short-count c =
     let level : Level (levels_of c.args.n c.args.codes.now c.args.ends.now) c.args.s.now c.args.depth = level-fits c.requires.fits c.requires.low c.requires.among in
     omega (arith, level)
 
-pub UNKNOWN-slice-bounds-fetch-short-start : goal.UNKNOWN-slice-bounds-fetch-short-start
-UNKNOWN-slice-bounds-fetch-short-start c = omega (arith, level c.before.before.before.before.before)
+pub slice_bounds-fetch_short-start : goal.slice_bounds-fetch_short-start
+slice_bounds-fetch_short-start c =
+    let level : Level (levels_of c.args.n c.args.codes.now c.args.ends.now) c.args.s.now c.args.depth = level-fits c.requires.fits c.requires.low c.requires.among in
+    omega (arith, level)
 
-pub UNKNOWN-slice-bounds-fetch-short-end : goal.UNKNOWN-slice-bounds-fetch-short-end
-UNKNOWN-slice-bounds-fetch-short-end c = omega (arith, level c.before.before.before.before.before)
+pub slice_bounds-fetch_short-end : goal.slice_bounds-fetch_short-end
+slice_bounds-fetch_short-end c =
+    let level : Level (levels_of c.args.n c.args.codes.now c.args.ends.now) c.args.s.now c.args.depth = level-fits c.requires.fits c.requires.low c.requires.among in
+    omega (arith, level)
 
 pub power_of_two-requires : goal.power_of_two-requires
 power_of_two-requires c =
@@ -61,15 +64,15 @@ pub fetch_short-short-requires : goal.fetch_short-short-requires
 fetch_short-short-requires c =
     let level : Level (levels_of c.args.n c.args.codes.now c.args.ends.now) c.args.s.now c.args.depth = level-fits c.requires.fits c.requires.low c.requires.among in
     let below : c.args.v - c.power_of_two.result < count_of c.args.n c.args.depth = index_below c.args.n c.args.depth c.args.v _ c.power_of_two.ensures c.requires.low c.requires.high c.requires.among in
-    let l = level in
-    (omega arith, part-short l, node-inside l _ (below))
+    (omega arith, part-short level, node-inside level _ below)
 
 pub returns-then-short-lt-LIMIT : goal.returns-then-short-lt-LIMIT
 returns-then-short-lt-LIMIT c =
     let level : Level (levels_of c.args.n c.args.codes.now c.args.ends.now) c.args.s.now c.args.depth = level-fits c.requires.fits c.requires.low c.requires.among in
     let below : c.args.v - c.power_of_two.result < count_of c.args.n c.args.depth = index_below c.args.n c.args.depth c.args.v _ c.power_of_two.ensures c.requires.low c.requires.high c.requires.among in
-    let p = c.requires in let short = c.fetch_short-short.ensures in let node = fetched-from (levels_of c.args.n c.args.codes.now c.args.ends.now) c.args.s.now c.args.depth c.args.v _ c.power_of_two.ensures p.low p.high in
+    let p = c.requires in
+    let node = fetched-from (levels_of c.args.n c.args.codes.now c.args.ends.now) c.args.s.now c.args.depth c.args.v _ c.power_of_two.ensures p.low p.high in
     record {
-      time = c.time_under.ensures ∙ ap (under c.args.v (gives c.args.above)) (ap value short ∙ sym (short-fetches _ _ _ _ (node-inside (level) _ (below)) (rw (← short) c.if-short-lt-LIMIT.true)) ∙ sym node);
+      time = c.time_under.ensures ∙ ap (under c.args.v (gives c.args.above)) (ap value c.fetch_short-short.ensures ∙ sym (short-fetches _ _ _ _ (node-inside level _ below) (rw (← c.fetch_short-short.ensures) c.if-short-lt-LIMIT.true)) ∙ sym node);
       marks = p.marks;
     }

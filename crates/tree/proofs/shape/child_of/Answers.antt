@@ -1,6 +1,5 @@
 -- The two numbers are those of the definition.
 use Rattle.tree.specs.Shape.{child_of}
-use borrow.Author.Rules.{rules}
 use Rattle.tree.proofs.shape.child_of.Goals as goal
 
 pub returns-then-right : goal.returns-then-right

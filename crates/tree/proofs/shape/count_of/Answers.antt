@@ -1,7 +1,6 @@
 -- From its first node on the level has the nodes up to n, and at most as many as stand before it with one more.
 use native.Mathlib.Omega.{arith}
 use lib.Pow.{pow_pos}
-use borrow.Author.Rules.{rules}
 use Rattle.tree.proofs.Heights.{level-starts, height-le}
 use Rattle.tree.proofs.NodeFetches.{count_is}
 use Rattle.tree.proofs.shape.count_of.Goals as goal

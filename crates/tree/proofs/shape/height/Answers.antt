@@ -1,7 +1,6 @@
 -- The number of bits up to the highest one bit is the only number that bounds n as the height does.
 use native.Mathlib.Omega.{arith}
 use lib.Count.{leading_le, leading_length}
-use borrow.Author.Rules.{rules}
 use Rattle.tree.proofs.Heights.{height-unique}
 use Rattle.tree.proofs.shape.height.Goals as goal
 

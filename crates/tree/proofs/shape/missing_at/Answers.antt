@@ -2,7 +2,6 @@
 use native.Mathlib.Omega.{arith}
 use mathlib.Core.Path.{◌≡◌, ap, ◌∙◌}
 use Prim.Native.Nat.{ℕ, ◌^◌}
-use borrow.Author.Rules.{rules}
 use Rattle.tree.specs.Shape.{height}
 use Rattle.tree.proofs.Heights.{height-le}
 use Rattle.tree.proofs.NodePlaces.{missing-last, missing-below}

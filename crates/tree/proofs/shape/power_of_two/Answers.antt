@@ -1,7 +1,6 @@
 -- A 1 shifted by less than 64 loses no bit.
 use native.Mathlib.Omega.{arith}
 use lib.Pow.{shl_exact}
-use borrow.Author.Rules.{rules}
 use Rattle.tree.proofs.shape.power_of_two.Goals as goal
 
 pub returns : goal.returns

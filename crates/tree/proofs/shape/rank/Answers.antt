@@ -7,7 +7,6 @@ use Rattle.tree.specs.declared.shape.Ranked.TheVariants.{At}
 use Rattle.tree.specs.Shape.{ranked}
 use Rattle.tree.proofs.Heights.{height-above, height-le, top_digit}
 use Rattle.tree.proofs.Stretches.{stretch-root}
-use borrow.Author.Rules.{rules}
 use Rattle.tree.proofs.shape.rank.Goals as goal
 
 pub returns-then-v-eq0 : goal.returns-then-v-eq0

@@ -6,7 +6,6 @@ use Rattle.tree.specs.Shape.{height}
 use mathlib.Core.Path.{◌≡◌, sym, ap, ◌∙◌}
 use Prim.Native.Nat.{ℕ, ◌-◌, ◌*◌, ◌^◌, ◌≤◌}
 use borrow.Author.Tests.{lt-ltb, le-ltb}
-use borrow.Author.Rules.{rules}
 use Rattle.tree.proofs.shape.root_place.Goals as goal
 
 pub returns-then-n-lt2 : goal.returns-then-n-lt2

@@ -1,11 +1,7 @@
 -- The loop passes one node a turn, as `left_by` does.
-use native.Mathlib.Omega.{arith}
-use Prim.Native.Nat.{◌-◌, ◌≤◌}
-use mathlib.Core.Path.{◌≡◌, refl, sym, ◌∙◌}
-use lib.ListN.{get_or}
-use borrow.Author.Tests.{lt-ltb, le-ltb}
+use Prim.Native.Nat.{◌≤◌}
+use mathlib.Core.Path.{◌≡◌}
 use Rattle.tree.specs.Remembering.{left_by}
-use Rattle.tree.proofs.Dropping.{left_step}
 use Rattle.tree.proofs.targets.left_by.Given as goal
 
 abbrev pub invariant-loop-left : goal.invariant-loop-left
