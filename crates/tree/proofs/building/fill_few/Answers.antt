@@ -2,7 +2,7 @@
 use native.Mathlib.Omega.{arith}
 use mathlib.Core.Path.{refl, sym, ◌∙◌}
 use mathlib.Core.Bool.{true, false}
-use Prim.Native.Nat.{◌+◌, ◌-◌, ◌*◌, ◌≤◌}
+use Prim.Native.Nat.{◌+◌, ◌-◌, ◌*◌}
 use lib.ListN.{length}
 use Rattle.tree.specs.Shape.{child_of}
 use Rattle.tree.specs.Standing.{StretchIs}
@@ -11,67 +11,96 @@ use Rattle.tree.proofs.Fills.{filled-node, filled-past, filled-leaf, fill-node, 
 use Rattle.tree.proofs.building.fill_few.Goals as goal
 
 pub returns-then-pins-eq0 : goal.returns-then-pins-eq0
-returns-then-pins-eq0 c = let p = c.requires in filled-past c.args.times.now p.times_in_bounds.1 p.stretch_is.0 c.if-pins-eq0.true c.args.values.now
+returns-then-pins-eq0 c =
+    let p = c.requires in
+    filled-past c.args.times.now p.times_in_bounds.1 p.stretch_is.0 c.if-pins-eq0.true c.args.values.now
 
 pub fill_node-requires : goal.fill_node-requires
-fill_node-requires c = let q = c.requires in record { t = c.requires.t; times_in_bounds = (q.times_in_bounds.0, q.times_in_bounds.1, fill-node c.args.times.now q.times_in_bounds.1 q.stretch_is.0 (omega arith), omega arith); at_value = (one_time c.args.times.now q.times_in_bounds.1 q.stretch_is.0 (omega arith), q.stretch_is.2) }
+fill_node-requires c =
+    let xs = c.args.times.now in
+    let p = c.requires in
+    let k = fill-node xs p.times_in_bounds.1 p.stretch_is.0 (omega arith) in
+    record {
+      t = p.t;
+      times_in_bounds = (p.times_in_bounds.0, p.times_in_bounds.1, k, omega arith);
+      at_value = (one_time xs p.times_in_bounds.1 p.stretch_is.0 (omega arith), p.stretch_is.2);
+    }
 
 pub returns-then-pins-eq1 : goal.returns-then-pins-eq1
-returns-then-pins-eq1 c = let p = c.requires in filled-leaf c.args.times.now p.times_in_bounds.1 p.stretch_is.0 (omega arith) p.times_in_bounds.0 c.fill_node.ensures.values_after
+returns-then-pins-eq1 c =
+    let p = c.requires in
+    filled-leaf c.args.times.now p.times_in_bounds.1 p.stretch_is.0 (omega arith) p.times_in_bounds.0 c.fill_node.ensures.values_after
 
 pub fill_node-time-requires : goal.fill_node-time-requires
-fill_node-time-requires c = let q = c.requires in record { t = c.requires.t; times_in_bounds = (q.times_in_bounds.0, q.times_in_bounds.1, fill-node c.args.times.now q.times_in_bounds.1 q.stretch_is.0 (omega arith), omega arith); at_value = (few-time c.args.times.now q.times_in_bounds.1 q.stretch_is.0 (omega arith) (omega arith), q.stretch_is.2) }
+fill_node-time-requires c =
+    let xs = c.args.times.now in
+    let p = c.requires in
+    let k = fill-node xs p.times_in_bounds.1 p.stretch_is.0 (omega arith) in
+    record {
+      t = p.t;
+      times_in_bounds = (p.times_in_bounds.0, p.times_in_bounds.1, k, omega arith);
+      at_value = (few-time xs p.times_in_bounds.1 p.stretch_is.0 (omega arith) (omega arith), p.stretch_is.2);
+    }
 
 pub overflow_mul-v : goal.overflow_mul-v
 overflow_mul-v c =
-    let node : c.args.v ≤ length c.args.times.now = let p = c.requires in fill-node c.args.times.now p.times_in_bounds.1 p.stretch_is.0 (omega arith) in
-    omega (arith, node)
+    omega (arith, fill-node c.args.times.now c.requires.times_in_bounds.1 c.requires.stretch_is.0 (omega arith))
 
 pub fill_node-requires-2 : goal.fill_node-requires-2
 unfolding child_of
 fill_node-requires-2 c =
-    let left : StretchIs (length c.args.times.now) (2 * c.args.v) c.args.start 1 = let p = c.requires in few-side false (length c.args.times.now) p.times_in_bounds.1 p.stretch_is.0 (omega arith) (omega arith) in
-    let s = left in
-    record { t = c.requires.t; times_in_bounds = (omega (arith, c.requires.times_in_bounds.0), omega (arith, c.requires.times_in_bounds.1), fill-node c.args.times.now (omega (arith, c.requires.times_in_bounds.1)) s (omega arith), omega arith); at_value = (one_time c.args.times.now (omega (arith, c.requires.times_in_bounds.1)) s refl, above-side false c.args.times.now c.args.v c.requires.times_in_bounds.1 ∙ sym c.fill_node-time.ensures.value) }
+    let xs = c.args.times.now in
+    let p = c.requires in
+    let left : StretchIs (length xs) (2 * c.args.v) c.args.start 1 = few-side false (length xs) p.times_in_bounds.1 p.stretch_is.0 (omega arith) (omega arith) in
+    record {
+      t = p.t;
+      times_in_bounds = (omega arith, omega arith, fill-node xs (omega arith) left (omega arith), omega arith);
+      at_value = (one_time xs (omega arith) left refl, above-side false xs c.args.v p.times_in_bounds.1 ∙ sym c.fill_node-time.ensures.value);
+    }
 
 pub overflow_mul-v-then-pins-eq3 : goal.overflow_mul-v-then-pins-eq3
 overflow_mul-v-then-pins-eq3 c =
-    let node : c.args.v ≤ length c.args.times.now = let p = c.requires in fill-node c.args.times.now p.times_in_bounds.1 p.stretch_is.0 (omega arith) in
-    omega (arith, node)
+    omega (arith, fill-node c.args.times.now c.requires.times_in_bounds.1 c.requires.stretch_is.0 (omega arith))
 
 pub overflow_add-v : goal.overflow_add-v
 overflow_add-v c =
-    let node : c.args.v ≤ length c.args.times.now = let p = c.requires in fill-node c.args.times.now p.times_in_bounds.1 p.stretch_is.0 (omega arith) in
-    omega (arith, node)
+    omega (arith, fill-node c.args.times.now c.requires.times_in_bounds.1 c.requires.stretch_is.0 (omega arith))
 
 pub fill_node-requires-then-pins-eq3 : goal.fill_node-requires-then-pins-eq3
 unfolding child_of
 fill_node-requires-then-pins-eq3 c =
-    let right : StretchIs (length c.args.times.now) (2 * c.args.v + 1) (c.args.start + 2) (c.args.pins - 2) = let p = c.requires in few-side true (length c.args.times.now) p.times_in_bounds.1 p.stretch_is.0 (omega arith) (omega arith) in
-    let s = right in
-    record { t = c.requires.t; times_in_bounds = (omega (arith, c.requires.times_in_bounds.0), omega arith, fill-node c.args.times.now (omega arith) s (omega arith), omega arith); at_value = (one_time c.args.times.now (omega arith) s (omega arith), above-side true c.args.times.now c.args.v c.requires.times_in_bounds.1 ∙ sym c.fill_node-time.ensures.value) }
+    let xs = c.args.times.now in
+    let p = c.requires in
+    let right : StretchIs (length xs) (2 * c.args.v + 1) (c.args.start + 2) (c.args.pins - 2) =
+    few-side true (length xs) p.times_in_bounds.1 p.stretch_is.0 (omega arith) (omega arith) in
+    record {
+      t = p.t;
+      times_in_bounds = (omega arith, omega arith, fill-node xs (omega arith) right (omega arith), omega arith);
+      at_value = (one_time xs (omega arith) right (omega arith), above-side true xs c.args.v p.times_in_bounds.1 ∙ sym c.fill_node-time.ensures.value);
+    }
 
 pub returns-then-pins-eq3 : goal.returns-then-pins-eq3
 unfolding child_of
 returns-then-pins-eq3 c =
-    let node : c.args.v ≤ length c.args.times.now = let p = c.requires in fill-node c.args.times.now p.times_in_bounds.1 p.stretch_is.0 (omega arith) in
-    let left : StretchIs (length c.args.times.now) (2 * c.args.v) c.args.start 1 = let p = c.requires in few-side false (length c.args.times.now) p.times_in_bounds.1 p.stretch_is.0 (omega arith) (omega arith) in
-    let right : StretchIs (length c.args.times.now) (2 * c.args.v + 1) (c.args.start + 2) (c.args.pins - 2) = let p = c.requires in few-side true (length c.args.times.now) p.times_in_bounds.1 p.stretch_is.0 (omega arith) (omega arith) in
-    let p = c.requires in let k = node in
-    let l = left in
-    let r = right in
-    filled-node c.args.times.now c.args.v c.args.values.now c.fill_node-time.new.values c.fill_node-2.new.values c.fill_node-then-pins-eq3.new.values p.times_in_bounds.1 k (omega (arith, k)) c.fill_node-time.ensures.values_after
-    (filled-leaf c.args.times.now (omega (arith, p.times_in_bounds.1)) l refl (omega (arith, p.times_in_bounds.0)) c.fill_node-2.ensures.values_after)
-    (filled-leaf c.args.times.now (omega arith) r (omega arith) (omega (arith, p.times_in_bounds.0)) c.fill_node-then-pins-eq3.ensures.values_after)
+    let xs = c.args.times.now in
+    let p = c.requires in
+    let k = fill-node xs p.times_in_bounds.1 p.stretch_is.0 (omega arith) in
+    let left : StretchIs (length xs) (2 * c.args.v) c.args.start 1 = few-side false (length xs) p.times_in_bounds.1 p.stretch_is.0 (omega arith) (omega arith) in
+    let right : StretchIs (length xs) (2 * c.args.v + 1) (c.args.start + 2) (c.args.pins - 2) =
+    few-side true (length xs) p.times_in_bounds.1 p.stretch_is.0 (omega arith) (omega arith) in
+    filled-node xs c.args.v c.args.values.now c.fill_node-time.new.values c.fill_node-2.new.values c.fill_node-then-pins-eq3.new.values p.times_in_bounds.1 k (omega arith) c.fill_node-time.ensures.values_after
+    (filled-leaf xs (omega arith) left refl (omega arith) c.fill_node-2.ensures.values_after)
+    (filled-leaf xs (omega arith) right (omega arith) (omega arith) c.fill_node-then-pins-eq3.ensures.values_after)
 
 pub returns-else-pins-eq3 : goal.returns-else-pins-eq3
 unfolding child_of
 returns-else-pins-eq3 c =
-    let node : c.args.v ≤ length c.args.times.now = let p = c.requires in fill-node c.args.times.now p.times_in_bounds.1 p.stretch_is.0 (omega arith) in
-    let left : StretchIs (length c.args.times.now) (2 * c.args.v) c.args.start 1 = let p = c.requires in few-side false (length c.args.times.now) p.times_in_bounds.1 p.stretch_is.0 (omega arith) (omega arith) in
-    let right : StretchIs (length c.args.times.now) (2 * c.args.v + 1) (c.args.start + 2) (c.args.pins - 2) = let p = c.requires in few-side true (length c.args.times.now) p.times_in_bounds.1 p.stretch_is.0 (omega arith) (omega arith) in
-    let p = c.requires in let k = node in
-    let l = left in
-    let r = right in
-    filled-node c.args.times.now c.args.v c.args.values.now c.fill_node-time.new.values c.fill_node-2.new.values c.fill_node-2.new.values p.times_in_bounds.1 k (omega (arith, k)) c.fill_node-time.ensures.values_after
-    (filled-leaf c.args.times.now (omega (arith, p.times_in_bounds.1)) l refl (omega (arith, p.times_in_bounds.0)) c.fill_node-2.ensures.values_after) (filled-past c.args.times.now (omega arith) r (omega arith) c.fill_node-2.new.values)
+    let xs = c.args.times.now in
+    let p = c.requires in
+    let k = fill-node xs p.times_in_bounds.1 p.stretch_is.0 (omega arith) in
+    let left : StretchIs (length xs) (2 * c.args.v) c.args.start 1 = few-side false (length xs) p.times_in_bounds.1 p.stretch_is.0 (omega arith) (omega arith) in
+    let right : StretchIs (length xs) (2 * c.args.v + 1) (c.args.start + 2) (c.args.pins - 2) =
+    few-side true (length xs) p.times_in_bounds.1 p.stretch_is.0 (omega arith) (omega arith) in
+    filled-node xs c.args.v c.args.values.now c.fill_node-time.new.values c.fill_node-2.new.values c.fill_node-2.new.values p.times_in_bounds.1 k (omega arith) c.fill_node-time.ensures.values_after
+    (filled-leaf xs (omega arith) left refl (omega arith) c.fill_node-2.ensures.values_after)
+    (filled-past xs (omega arith) right (omega arith) c.fill_node-2.new.values)

@@ -28,4 +28,6 @@ pub slice_bounds-result-start : goal.slice_bounds-result-start
 slice_bounds-result-start c = omega (arith, level-starts (length c.args.values.now) c.args.depth (omega arith))
 
 pub returns : goal.returns
-returns c = rw (count-between (length c.args.values.now) c.args.depth c.power_of_two-first.result c.least-last.result c.power_of_two-first.ensures c.least-last.ensures, c.power_of_two-first.ensures)
+returns c =
+    let first = c.power_of_two-first in
+    rw (count-between (length c.args.values.now) c.args.depth first.result c.least-last.result first.ensures c.least-last.ensures, first.ensures)

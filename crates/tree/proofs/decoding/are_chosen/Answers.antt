@@ -15,7 +15,8 @@ use Rattle.tree.proofs.decoding.are_chosen.Goals as goal
 
 -- a level lies in the bytes
 in-bytes : (levels : Levels) (s : List ℕ) → Fits levels s → (d : ℕ) → d < height levels.pins
-    → (get_or levels.ends d 0 ≤ get_or levels.ends (d + 1) 0) × (get_or levels.ends (d + 1) 0 ≤ length s) × (get_or levels.ends (d + 1) 0 - get_or levels.ends d 0 < 2 ^ 32)
+    → (get_or levels.ends d 0 ≤ get_or levels.ends (d + 1) 0) × (get_or levels.ends (d + 1) 0 ≤ length s)
+    × (get_or levels.ends (d + 1) 0 - get_or levels.ends d 0 < 2 ^ 32)
 in-bytes levels s f d h = (f.in_order d h, f.inside d h, f.short d h)
 
 pub loop-d-init : goal.loop-d-init
@@ -38,7 +39,8 @@ is_chosen-requires c =
     let lies = in-bytes c.args.levels c.args.s.now c.requires.0 c.loop-d.d (omega arith) in
     let d = c.loop-d.d in
     let own = level-decodes c.args.levels c.args.s.now c.args.values.now c.requires.1 d (omega arith) in
-    let few : length (level_values c.args.values.now d) < 2 ^ 32 = omega (arith, level-half c.args.values.now d, count, pins-bound c.args.levels c.args.s.now c.requires.0) in
+    let few : length (level_values c.args.values.now d) < 2 ^ 32 =
+    omega (arith, level-half c.args.values.now d, count, pins-bound c.args.levels c.args.s.now c.requires.0) in
     rw c.level_values.ensures (record { values_len_bound = (few, simp length-take (omega (arith, lies))); part_value = own })
 
 pub returns-then-not-is_chosen : goal.returns-then-not-is_chosen

@@ -97,7 +97,8 @@ shape_of-values-then-not-decode c =
 pub returns-then-not-decode : goal.returns-then-not-decode
 returns-then-not-decode c =
     let last : ℕ = c.least-last.result in
-    let last-is : last ≡ min (length c.loop-first.values) (2 * c.loop-first.first - 1) = c.least-last.ensures ∙ ap (λ (n : ℕ). min n (2 * c.loop-first.first - 1)) (sym c.loop-first.invariant.1) in
+    let last-is : last ≡ min (length c.loop-first.values) (2 * c.loop-first.first - 1) =
+    c.least-last.ensures ∙ ap (λ (n : ℕ). min n (2 * c.loop-first.first - 1)) (sym c.loop-first.invariant.1) in
     let in-part = before_last (length c.loop-first.values) c.loop-first.first last last-is (omega arith) in
     let few = mid_len (c.loop-first.first - 1) last c.loop-first.values in-part.1 in
     let part = mid_of (c.loop-first.first - 1) (last - (c.loop-first.first - 1)) c.loop-first.values in
@@ -110,8 +111,8 @@ returns-then-not-decode c =
     let deeper : c.loop-first.depth < height c.args.levels.pins = height-above c.args.levels.pins c.loop-first.depth (omega arith) in
     let kept = kept_by (c.loop-first.first - 1) last c.loop-first.values c.decode.new.values c.args.values.now c.decode.auto.values c.loop-first.invariant.1 in
     let n = length c.args.values.now in
-    let e = decoded-not c.args.levels c.args.s.now c.loop-first.depth last (take (c.loop-first.first - 1) c.loop-first.values) _ c.loop-first.invariant.5 decodes
-    (sym c.decode.ensures.value ∙ c.if-not-decode.true) (height c.args.levels.pins) deeper in
+    let e = decoded-not c.args.levels c.args.s.now c.loop-first.depth last (take (c.loop-first.first - 1) c.loop-first.values) _
+    c.loop-first.invariant.5 decodes (sym c.decode.ensures.value ∙ c.if-not-decode.true) (height c.args.levels.pins) deeper in
     record {
       told = sym (ap is_decoded e);
       left = c.clear.ensures ∙ ap (λ (zs : List ℕ). replicate n 0 ++ zs) (drop_of_length-le _ {i = n} (le_of_eq kept)) ∙ append-nil (replicate n 0)
@@ -126,7 +127,8 @@ overflow_add-depth c =
 pub loop-first-preserved : goal.loop-first-preserved
 loop-first-preserved c =
     let last : ℕ = c.least-last.result in
-    let last-is : last ≡ min (length c.loop-first.values) (2 * c.loop-first.first - 1) = c.least-last.ensures ∙ ap (λ (n : ℕ). min n (2 * c.loop-first.first - 1)) (sym c.loop-first.invariant.1) in
+    let last-is : last ≡ min (length c.loop-first.values) (2 * c.loop-first.first - 1) =
+    c.least-last.ensures ∙ ap (λ (n : ℕ). min n (2 * c.loop-first.first - 1)) (sym c.loop-first.invariant.1) in
     let in-part = before_last (length c.loop-first.values) c.loop-first.first last last-is (omega arith) in
     let few = mid_len (c.loop-first.first - 1) last c.loop-first.values in-part.1 in
     let part = mid_of (c.loop-first.first - 1) (last - (c.loop-first.first - 1)) c.loop-first.values in
@@ -138,15 +140,16 @@ loop-first-preserved c =
     ap (λ (n : ℕ). decoded (code_of c.args.levels c.loop-first.depth) n (part_of c.args.levels.ends c.args.s.now c.loop-first.depth)) (sym nodes) in
     let kept = kept_by (c.loop-first.first - 1) last c.loop-first.values c.decode.new.values c.args.values.now c.decode.auto.values c.loop-first.invariant.1 in
     let deeper : c.loop-first.depth < height c.args.levels.pins = height-above c.args.levels.pins c.loop-first.depth (omega arith) in
-    let e = decoded-next c.args.levels c.args.s.now c.loop-first.depth (length part) (take (c.loop-first.first - 1) c.loop-first.values) _ c.loop-first.invariant.5 decodes
-    (sym c.decode.ensures.value ∙ c.if-not-decode.false) in (
+    let e = decoded-next c.args.levels c.args.s.now c.loop-first.depth (length part) (take (c.loop-first.first - 1) c.loop-first.values) _
+    c.loop-first.invariant.5 decodes (sym c.decode.ensures.value ∙ c.if-not-decode.false) in (
       refl,
       kept,
       (next c.loop-first.depth c.loop-first.invariant.2 c.loop-first.invariant.3).0,
       (next c.loop-first.depth c.loop-first.invariant.2 c.loop-first.invariant.3).1,
       rw add-one deeper,
       e ∙ ap (λ (ys : List ℕ). all (take (c.loop-first.first - 1) c.loop-first.values ++ ys)) (sym c.decode.ensures.values_after)
-          ∙ ap all (sym (front-put (c.loop-first.first - 1) last (2 * c.loop-first.first - 1) c.loop-first.values c.decode.new.values in-part.0 last-is (c.decode.auto.values ∙ few))),
+          ∙ ap all (sym (front-put (c.loop-first.first - 1) last (2 * c.loop-first.first - 1) c.loop-first.values c.decode.new.values in-part.0 last-is
+          (c.decode.auto.values ∙ few))),
     )
 
 pub shape_of-values : goal.shape_of-values
@@ -155,5 +158,6 @@ shape_of-values c = c.loop-first.invariant.1
 pub returns : goal.returns
 returns c =
     let depth : c.loop-first.depth ≡ height c.args.levels.pins = omega (arith, height-le c.args.levels.pins c.loop-first.depth (omega arith)) in
-    let e : decoded_levels c.args.levels c.args.s.now ≡ all c.loop-first.values = rw (← depth) (c.loop-first.invariant.5 ∙ ap all (take_all (c.loop-first.first - 1) c.loop-first.values (omega arith))) in
+    let e : decoded_levels c.args.levels c.args.s.now ≡ all c.loop-first.values =
+    rw (← depth) (c.loop-first.invariant.5 ∙ ap all (take_all (c.loop-first.first - 1) c.loop-first.values (omega arith))) in
     record { told = sym (ap is_decoded e); left = sym (ap (decoded_or0 c.args.levels.pins) e) }

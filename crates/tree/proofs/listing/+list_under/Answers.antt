@@ -6,8 +6,6 @@ use Prim.Native.Nat.{ℕ, ◌+◌, ◌-◌, ◌≤◌}
 use native.Mathlib.Nat.{add-zero}
 use lib.ListN.{length, set, length-set}
 use Rattle.codes.proofs.Promises.{list-laws}
-use Rattle.tree.specs.Outcomes.{gives}
-use Rattle.tree.specs.Times.{times_in}
 use Rattle.tree.specs.declared.nodes.Levels.{Levels}
 use Rattle.tree.specs.declared.shape.Stretch.{Stretch}
 use Rattle.tree.specs.Shape.{root_place}
@@ -69,7 +67,7 @@ pub list_under-left-requires : goal.list_under-left-requires
 list_under-left-requires t c =
     let p = c.requires in
     let place = bounds c.requires.fits.0 c.requires.stands (omega arith) c.root_place-place.result c.root_place-place.ensures in
-    let time-is : times_in c.args.levels c.args.s.now c.args.v ≡ gives c.open_full-told.result = stands-time c.requires.stands c.open_full-told.ensures.time (omega arith) in
+    let time-is = stands-time c.requires.stands c.open_full-told.ensures.time (omega arith) in
     (omega (arith, place), (p.fits, stands-left p.stands p.reaches (omega arith) _ time-is _ c.root_place-place.ensures))
 
 pub shape_of-times-in-Refused : goal.shape_of-times-in-Refused
@@ -78,10 +76,11 @@ shape_of-times-in-Refused t c = c.list_under-left.auto.times
 pub returns-in-Refused : goal.returns-in-Refused
 returns-in-Refused t c =
     let p = c.requires in
-    let time-is : times_in c.args.levels c.args.s.now c.args.v ≡ gives c.open_full-told.result = stands-time c.requires.stands c.open_full-told.ensures.time (omega arith) in
+    let time-is = stands-time c.requires.stands c.open_full-told.ensures.time (omega arith) in
     let l = c.list_under-left.ensures.lists in
     let is = c.in-Refused.is in
-    let z = listed-left p.stands p.reaches (omega arith) _ time-is _ c.root_place-place.ensures c.args.times.now c.list_under-left.new.times c.list_under-left.ensures.times_after
+    let z = listed-left p.stands p.reaches (omega arith) _ time-is _ c.root_place-place.ensures c.args.times.now c.list_under-left.new.times
+    c.list_under-left.ensures.times_after
     (sym (ap listed is) ∙ l.outcome) (sym (ap (λ (r : Listed). end_of r (c.args.start + (c.root_place-place.result - 1))) is) ∙ l.ends) in
     record { lists = record { outcome = z.0; ends = z.1 }; times_after = z.2 }
 
@@ -136,7 +135,7 @@ list_under-requires t c =
     let place = bounds c.requires.fits.0 c.requires.stands (omega arith) c.root_place-place.result c.root_place-place.ensures in
     let as_many : length (set c.list_under-left.new.times (c.args.start + c.root_place-place.result - 1) c.open_full-told.result) ≡ length c.args.times.now =
     length-set c.list_under-left.new.times _ _ ∙ c.list_under-left.auto.times in
-    let time-is : times_in c.args.levels c.args.s.now c.args.v ≡ gives c.open_full-told.result = stands-time c.requires.stands c.open_full-told.ensures.time (omega arith) in
+    let time-is = stands-time c.requires.stands c.open_full-told.ensures.time (omega arith) in
     (omega (arith, place), ((p.fits.0, omega (arith, as_many)), stands-right p.stands p.reaches (omega arith) _ time-is _ c.root_place-place.ensures))
 
 pub shape_of-times : goal.shape_of-times
@@ -149,9 +148,10 @@ pub returns : goal.returns
 returns t c =
     let p = c.requires in
     let place = bounds c.requires.fits.0 c.requires.stands (omega arith) c.root_place-place.result c.root_place-place.ensures in
-    let time-is : times_in c.args.levels c.args.s.now c.args.v ≡ gives c.open_full-told.result = stands-time c.requires.stands c.open_full-told.ensures.time (omega arith) in
+    let time-is = stands-time c.requires.stands c.open_full-told.ensures.time (omega arith) in
     let last : c.args.start + c.args.pins ≡ c.args.start + c.root_place-place.result + (c.args.pins - c.root_place-place.result) = omega (arith, place) in
-    let z = listed-right p.stands p.reaches (omega arith) _ time-is _ c.root_place-place.ensures c.args.times.now c.list_under-left.new.times c.list_under-left.ensures.times_after
+    let z = listed-right p.stands p.reaches (omega arith) _ time-is _ c.root_place-place.ensures c.args.times.now c.list_under-left.new.times
+    c.list_under-left.ensures.times_after
     (sym (ap listed c.in-All.is) ∙ c.list_under-left.ensures.lists.outcome) (omega (arith, place))
     c.list_under.ensures.lists.outcome (ap (end_of c.list_under.result) last ∙ c.list_under.ensures.lists.ends) c.list_under.ensures.times_after in
     record { lists = record { outcome = z.0; ends = z.1 }; times_after = z.2 }

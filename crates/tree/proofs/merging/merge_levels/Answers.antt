@@ -27,8 +27,10 @@ loop-first-init c =
 
 pub merge_level-requires : goal.merge_level-requires
 merge_level-requires c =
-    let values = c.args.values.now in let n : c.least-last.result ≤ length values = omega arith in
-    rw (span-length c.loop-first.first c.least-last.result values n) (omega arith, omega arith, omega arith, first-odd _ _ c.loop-first.first c.loop-first.times c.loop-first.invariant.5)
+    let values = c.args.values.now in
+    let n : c.least-last.result ≤ length values = omega arith in
+    rw (span-length c.loop-first.first c.least-last.result values n)
+    (omega arith, omega arith, omega arith, first-odd _ _ c.loop-first.first c.loop-first.times c.loop-first.invariant.5)
 
 pub shape_of-times-then-not-merge_level : goal.shape_of-times-then-not-merge_level
 shape_of-times-then-not-merge_level c = c.merge_level.auto.times ∙ c.loop-first.invariant.5.kept ∙ simp length-set
@@ -43,7 +45,8 @@ loop-first-preserved c = (
   omega arith,
   c.loop-first.invariant.3,
   rw c.merge_level.auto.times c.loop-first.invariant.4,
-  grown-next _ _ c.loop-first.first c.loop-first.times c.loop-first.invariant.5 _ c.merge_level.new.times c.least-last.result (omega arith) c.least-last.ensures refl (c.merge_level.ensures c.if-not-merge_level.false),
+  grown-next _ _ c.loop-first.first c.loop-first.times c.loop-first.invariant.5 _ c.merge_level.new.times c.least-last.result (omega arith) c.least-last.ensures
+      refl (c.merge_level.ensures c.if-not-merge_level.false),
 )
 
 pub shape_of-times : goal.shape_of-times

@@ -26,6 +26,11 @@ returns c =
       | then-v-eq0 w ↦ told-time c.args.v time (omega arith) ∙ ap gives (omega arith) ∙ time-left c.args.v c.args.above c.args.d (omega arith) (omega arith)
       | else-v-eq0 w ↦ elim (dec_lt (c.args.above + c.args.d) 4294967296) [
         | yes h ↦ told-time c.args.v time (omega arith) ∙ ap gives (omega arith) ∙ time-right c.args.v c.args.above c.args.d (omega arith) h
-        | no h ↦ rw (ne_eqb (c.args.v % 2) 0 (omega arith), le-ltb (c.args.above + c.args.d) 4294967296 (omega arith), le-ltb time 4294967296 (omega arith), lt-ltb time 8589934592 (omega arith))
+        | no h ↦ rw (
+          ne_eqb (c.args.v % 2) 0 (omega arith),
+          le-ltb (c.args.above + c.args.d) 4294967296 (omega arith),
+          le-ltb time 4294967296 (omega arith),
+          lt-ltb time 8589934592 (omega arith),
+        )
       ]
     ]

@@ -37,11 +37,13 @@ rank_under-requires t c =
     let place = placed c.args.depth c.requires.depth_bound.2 c.requires.by_index c.root_place-place.ensures in
     let p = c.requires.by_index in
     let i = side-in (eqb (c.args.v / 2 ^ (c.args.depth - 1) % 2) 1) (record { start = c.args.start; pins = c.args.pins }) (omega arith) in
-    rw c.side_of-side.ensures
-    (omega arith, (
-      (omega arith, omega arith, shift-some c.args.v c.args.depth c.requires.depth_bound.2 (omega arith)),
-      (p.0, p.1, shift-side c.args.v c.args.depth c.requires.depth_bound.2 (omega arith) p.0 p.2),
-    ))
+    rw c.side_of-side.ensures (
+      omega arith,
+      (
+        (omega arith, omega arith, shift-some c.args.v c.args.depth c.requires.depth_bound.2 (omega arith)),
+        (p.0, p.1, shift-side c.args.v c.args.depth c.requires.depth_bound.2 (omega arith) p.0 p.2),
+      ),
+    )
 
 pub returns : goal.returns
 returns t c = λ n e.

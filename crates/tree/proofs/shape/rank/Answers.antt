@@ -23,7 +23,10 @@ overflow_sub-height c = omega (arith, height-above c.args.v 0 (omega arith))
 pub rank_under-requires : goal.rank_under-requires
 rank_under-requires c =
     let e : c.args.v / 2 ^ (c.height.result - 1) ≡ 1 = rw c.height.ensures (top_digit c.args.v (omega arith)) in
-    record { depth_bound = (omega (arith, height-le c.args.v 64 (omega arith)), omega arith, omega arith); by_index = (c.args.n, omega arith, rw e (stretch-root c.args.n)) }
+    record {
+      depth_bound = (omega (arith, height-le c.args.v 64 (omega arith)), omega arith, omega arith);
+      by_index = (c.args.n, omega arith, rw e (stretch-root c.args.n));
+    }
 
 pub returns : goal.returns
 unfolding ranked

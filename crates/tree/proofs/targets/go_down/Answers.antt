@@ -22,7 +22,8 @@ less : (n v u : ℕ) → v ≤ n → v < u → suc n - u < suc n - v
 less n v u h k = omega arith
 
 -- where it stands, by the loop's own depth
-stands-at : {levels : Levels} {s : List ℕ} {v above : ℕ} {here : Stretch} (depth d : ℕ) → depth ≡ d → Stands levels s v d here above → Stands levels s v depth here above
+stands-at : {levels : Levels} {s : List ℕ} {v above : ℕ} {here : Stretch} (depth d : ℕ) → depth ≡ d → Stands levels s v d here above
+    → Stands levels s v depth here above
 stands-at {levels} {s} {v} {above} {here} depth d is w = subst (λ (k : ℕ). Stands levels s v k here above) (sym is) w
 
 -- a child is one level further down
@@ -37,33 +38,29 @@ loop-v-init c = (record { goes = c.requires.fits.1; answer = refl; kept = refl }
 
 pub overflow_add-opened : goal.overflow_add-opened
 overflow_add-opened c =
-    let levels : Levels = levels_of c.args.n c.args.codes.now c.args.ends.now in
     let stands = stands-at c.loop-v.depth (height c.loop-v.v - 1) c.loop-v.invariant.1 c.loop-v.invariant.0.goes.place.stands in
     let level = stands-level stands c.requires.fits.0 c.loop-v-test.true in
-    let few : c.loop-v.count < 16 = count_under c.loop-v.invariant.0.goes c.requires.fits.0 c.loop-v-test.true in
-    let g = c.loop-v.invariant.0.goes in omega (arith, level, g.few, g.place.stands.inside, few)
+    let g = c.loop-v.invariant.0.goes in
+    omega (arith, level, g.few, g.place.stands.inside, count_under g c.requires.fits.0 c.loop-v-test.true)
 
 pub open_node-told-requires : goal.open_node-told-requires
 open_node-told-requires c =
-    let levels : Levels = levels_of c.args.n c.args.codes.now c.args.ends.now in
     let stands = stands-at c.loop-v.depth (height c.loop-v.v - 1) c.loop-v.invariant.1 c.loop-v.invariant.0.goes.place.stands in
     stands-opens stands c.requires.fits.0 c.loop-v.invariant.2 c.loop-v-test.true
 
 pub returns-then-told-ge-LIMIT : goal.returns-then-told-ge-LIMIT
 returns-then-told-ge-LIMIT c =
-    let levels : Levels = levels_of c.args.n c.args.codes.now c.args.ends.now in
     let stands = stands-at c.loop-v.depth (height c.loop-v.v - 1) c.loop-v.invariant.1 c.loop-v.invariant.0.goes.place.stands in
     let e = stands-told stands c.open_node-told.result c.open_node-told.ensures.time ∙ sym c.refusal_of.ensures in
-    let n = levels.pins in
-    let stops = target-refused n (times_in levels c.args.s.now) c.args.way.target (entries c.loop-v.nodes c.loop-v.count) c.loop-v.opened c.loop-v.v _ _ stands.one c.loop-v-test.true e in
+    let levels : Levels = levels_of c.args.n c.args.codes.now c.args.ends.now in
+    let kept = entries c.loop-v.nodes c.loop-v.count in
+    let stops = target-refused levels.pins (times_in levels c.args.s.now) c.args.way.target kept c.loop-v.opened c.loop-v.v _ _ stands.one c.loop-v-test.true e in
     record { leaves = sym c.loop-v.invariant.0.answer ∙ stops; level_marks_2 = c.open_node-told.ensures.marks }
 
 pub child_of-v-requires : goal.child_of-v-requires
 child_of-v-requires c =
-    let levels : Levels = levels_of c.args.n c.args.codes.now c.args.ends.now in
     let stands = stands-at c.loop-v.depth (height c.loop-v.v - 1) c.loop-v.invariant.1 c.loop-v.invariant.0.goes.place.stands in
-    let level = stands-level stands c.requires.fits.0 c.loop-v-test.true in
-    omega (arith, level)
+    omega (arith, stands-level stands c.requires.fits.0 c.loop-v-test.true)
 
 pub offset_bounds-nodes-count : goal.offset_bounds-nodes-count
 offset_bounds-nodes-count c =
@@ -85,21 +82,16 @@ overflow_add-count c =
 
 pub child_of-v-requires-else-time-target : goal.child_of-v-requires-else-time-target
 child_of-v-requires-else-time-target c =
-    let levels : Levels = levels_of c.args.n c.args.codes.now c.args.ends.now in
     let stands = stands-at c.loop-v.depth (height c.loop-v.v - 1) c.loop-v.invariant.1 c.loop-v.invariant.0.goes.place.stands in
-    let level = stands-level stands c.requires.fits.0 c.loop-v-test.true in
-    omega (arith, level)
+    omega (arith, stands-level stands c.requires.fits.0 c.loop-v-test.true)
 
 pub overflow_add-depth : goal.overflow_add-depth
 overflow_add-depth c =
-    let levels : Levels = levels_of c.args.n c.args.codes.now c.args.ends.now in
     let stands = stands-at c.loop-v.depth (height c.loop-v.v - 1) c.loop-v.invariant.1 c.loop-v.invariant.0.goes.place.stands in
-    let level = stands-level stands c.requires.fits.0 c.loop-v-test.true in
-    omega (arith, level)
+    omega (arith, stands-level stands c.requires.fits.0 c.loop-v-test.true)
 
 pub loop-v-smaller : goal.loop-v-smaller
 loop-v-smaller c =
-    let levels : Levels = levels_of c.args.n c.args.codes.now c.args.ends.now in
     let stands = stands-at c.loop-v.depth (height c.loop-v.v - 1) c.loop-v.invariant.1 c.loop-v.invariant.0.goes.place.stands in
     let deeper = λ (right : Bool). deeper-by right c.loop-v.depth stands.one c.loop-v.invariant.1 in
     elim c.if-time-target.branch [
@@ -109,7 +101,6 @@ loop-v-smaller c =
 
 pub loop-v-preserved : goal.loop-v-preserved
 loop-v-preserved c =
-    let levels : Levels = levels_of c.args.n c.args.codes.now c.args.ends.now in
     let stands = stands-at c.loop-v.depth (height c.loop-v.v - 1) c.loop-v.invariant.1 c.loop-v.invariant.0.goes.place.stands in
     let deeper = λ (right : Bool). deeper-by right c.loop-v.depth stands.one c.loop-v.invariant.1 in
     let m = c.loop-v.invariant.0 in

@@ -15,7 +15,7 @@ use Rattle.tree.specs.Standing.{Openable}
 use Rattle.tree.proofs.Heights.{height_bound, height-mono, first-digits}
 use Rattle.tree.proofs.NodeTimes.{time-above, time-step, told-time}
 use Rattle.tree.proofs.LevelMarks.{marks-zero}
-use Rattle.tree.proofs.NodeFetches.{Level, level-fits, pins-bound}
+use Rattle.tree.proofs.NodeFetches.{level-fits, pins-bound}
 use Rattle.tree.proofs.Walks.{met-fine, met-refused}
 use Rattle.tree.proofs.Paths.{down_to, down_to-on, access-down}
 use Rattle.tree.proofs.walking.access.Goals as goal
@@ -26,12 +26,14 @@ node_of-goal-requires c = omega (arith, c.requires.i_lt_pins, pins-bound c.args.
 pub loop-below-init : goal.loop-below-init
 loop-below-init c =
     let read = times_in c.args.levels c.args.s.now in
-    let z : c.node_of-goal.result / 2 ^ height c.node_of-goal.result ≡ 0 = omega (arith, shr_lt {n = c.node_of-goal.result} 0 (height c.node_of-goal.result) (rw zero-add (height_bound c.node_of-goal.result))) in
+    let goal = c.node_of-goal.result in
+    let z : goal / 2 ^ height goal ≡ 0 = omega (arith, shr_lt {n = goal} 0 (height goal) (rw zero-add (height_bound goal))) in
     rw c.height-below.ensures (
       omega arith,
       refl,
       rw z (time-above (fetched_at c.args.levels c.args.s.now)),
-      sym (access-down c.args.levels.pins c.node_of-goal.result read c.node_of-goal.ensures.0 c.node_of-goal.ensures.1) ∙ ap (access_answer c.args.levels.pins read) c.node_of-goal.ensures.2,
+      sym (access-down c.args.levels.pins goal read c.node_of-goal.ensures.0 c.node_of-goal.ensures.1)
+          ∙ ap (access_answer c.args.levels.pins read) c.node_of-goal.ensures.2,
       omega arith,
     )
 
@@ -49,18 +51,12 @@ overflow_shr-v c =
 
 pub overflow_add-opened : goal.overflow_add-opened
 overflow_add-opened c =
-    let goal : ℕ = c.node_of-goal.result in
-    let node : ℕ = goal / 2 ^ (c.loop-below.below - 1) in
-    let opens = opens-at goal c.loop-below.depth c.loop-below.below c.requires.fits c.node_of-goal.ensures (omega (arith, c.loop-below.invariant.0)) (omega arith) in
-    let level : Level c.args.levels c.args.s.now c.loop-below.depth = level-fits c.requires.fits opens.low opens.among in
-    omega (arith, level)
+    let opens = opens-at c.node_of-goal.result c.loop-below.depth c.loop-below.below c.requires.fits c.node_of-goal.ensures c.loop-below.invariant.0 (omega arith) in
+    omega (arith, level-fits c.requires.fits opens.low opens.among)
 
 pub open_node-told-requires : goal.open_node-told-requires
 open_node-told-requires c =
-    let goal : ℕ = c.node_of-goal.result in
-    let node : ℕ = goal / 2 ^ (c.loop-below.below - 1) in
-    let opens = opens-at goal c.loop-below.depth c.loop-below.below c.requires.fits c.node_of-goal.ensures (omega (arith, c.loop-below.invariant.0)) (omega arith) in
-    opens
+    opens-at c.node_of-goal.result c.loop-below.depth c.loop-below.below c.requires.fits c.node_of-goal.ensures c.loop-below.invariant.0 (omega arith)
 
 pub returns-then-told-ge-LIMIT : goal.returns-then-told-ge-LIMIT
 returns-then-told-ge-LIMIT c =
@@ -68,33 +64,32 @@ returns-then-told-ge-LIMIT c =
     let goal : ℕ = c.node_of-goal.result in
     let answer : Found = found (known (read goal)) (height goal) in
     let node : ℕ = goal / 2 ^ (c.loop-below.below - 1) in
-    let opens = opens-at goal c.loop-below.depth c.loop-below.below c.requires.fits c.node_of-goal.ensures (omega (arith, c.loop-below.invariant.0)) (omega arith) in
+    let opens = opens-at goal c.loop-below.depth c.loop-below.below c.requires.fits c.node_of-goal.ensures c.loop-below.invariant.0 (omega arith) in
     let e : c.loop-below.below - 1 + 1 ≡ c.loop-below.below = omega arith in
     let half : node / 2 ≡ goal / 2 ^ c.loop-below.below = shr-shr goal (c.loop-below.below - 1) 1 ∙ rw e in
     let time-told : read node ≡ time_told node c.open_node-told.result =
-    time-step (fetched_at c.args.levels c.args.s.now) node (omega (arith, opens.low, pow_pos c.loop-below.depth)) ∙ rw (half, c.loop-below.invariant.2, c.open_node-told.ensures.time) in
+    time-step (fetched_at c.args.levels c.args.s.now) node (omega (arith, opens.low, pow_pos c.loop-below.depth))
+    ∙ rw (half, c.loop-below.invariant.2, c.open_node-told.ensures.time) in
     let on : met read (node ∷ down_to goal (c.loop-below.below - 1)) answer ≡ access_answer c.args.levels.pins read c.args.i =
     sym (ap (λ (vs : List ℕ). met read vs answer) (down_to-on goal c.loop-below.below (omega arith))) ∙ c.loop-below.invariant.3 in
     sym (met-refused read answer node _ (time-told ∙ sym c.refusal_of.ensures)) ∙ on
 
 pub overflow_add-depth : goal.overflow_add-depth
 overflow_add-depth c =
-    let goal : ℕ = c.node_of-goal.result in
-    let node : ℕ = goal / 2 ^ (c.loop-below.below - 1) in
-    let opens = opens-at goal c.loop-below.depth c.loop-below.below c.requires.fits c.node_of-goal.ensures (omega (arith, c.loop-below.invariant.0)) (omega arith) in
-    let level : Level c.args.levels c.args.s.now c.loop-below.depth = level-fits c.requires.fits opens.low opens.among in
-    omega (arith, level)
+    let opens = opens-at c.node_of-goal.result c.loop-below.depth c.loop-below.below c.requires.fits c.node_of-goal.ensures c.loop-below.invariant.0 (omega arith) in
+    omega (arith, level-fits c.requires.fits opens.low opens.among)
 
 pub loop-below-preserved : goal.loop-below-preserved
 loop-below-preserved c =
     let goal : ℕ = c.node_of-goal.result in
     let node : ℕ = goal / 2 ^ (c.loop-below.below - 1) in
-    let opens = opens-at goal c.loop-below.depth c.loop-below.below c.requires.fits c.node_of-goal.ensures (omega (arith, c.loop-below.invariant.0)) (omega arith) in
+    let opens = opens-at goal c.loop-below.depth c.loop-below.below c.requires.fits c.node_of-goal.ensures c.loop-below.invariant.0 (omega arith) in
     let read : ℕ → Outcome ℕ = times_in c.args.levels c.args.s.now in
     let e : c.loop-below.below - 1 + 1 ≡ c.loop-below.below = omega arith in
     let half : node / 2 ≡ goal / 2 ^ c.loop-below.below = shr-shr goal (c.loop-below.below - 1) 1 ∙ rw e in
     let time-told : read node ≡ time_told node c.open_node-told.result =
-    time-step (fetched_at c.args.levels c.args.s.now) node (omega (arith, opens.low, pow_pos c.loop-below.depth)) ∙ rw (half, c.loop-below.invariant.2, c.open_node-told.ensures.time) in
+    time-step (fetched_at c.args.levels c.args.s.now) node (omega (arith, opens.low, pow_pos c.loop-below.depth))
+    ∙ rw (half, c.loop-below.invariant.2, c.open_node-told.ensures.time) in
     let time-is : read node ≡ gives c.open_node-told.result = time-told ∙ told-time node c.open_node-told.result (omega arith) in
     let answer : Found = found (known (read goal)) (height goal) in
     let on : met read (node ∷ down_to goal (c.loop-below.below - 1)) answer ≡ access_answer c.args.levels.pins read c.args.i =

@@ -1,7 +1,7 @@
 use native.Mathlib.Omega.{arith}
 use mathlib.Core.Bool.{cond}
 use mathlib.Core.List.{[], ◌∷◌}
-use mathlib.Core.Path.{◌≡◌, refl, sym, ap, ◌∙◌}
+use mathlib.Core.Path.{refl, sym, ap, ◌∙◌}
 use Prim.Native.Nat.{ℕ, ◌≤◌}
 use native.Mathlib.Nat.{zero-add}
 use lib.Dec.{ltb}
@@ -11,8 +11,9 @@ use Rattle.tree.specs.Walks.{found}
 use Rattle.tree.proofs.Stretches.{stretch-root, stretch-child}
 use Rattle.tree.proofs.Walks.{child-bounds, parent_of}
 use Rattle.tree.proofs.LevelMarks.{marks-zero}
-use Rattle.tree.proofs.NodeFetches.{Level, pins-bound}
-use Rattle.tree.proofs.Steps.{stands-root, stands-end, stands-level, stands-opens, stands-told, stands-time, stands-child, side-ends, target-end, target-refused, target-step}
+use Rattle.tree.proofs.NodeFetches.{pins-bound}
+use Rattle.tree.proofs.Steps.{stands-root, stands-end, stands-level, stands-opens, stands-told, stands-time, stands-child, side-ends}
+use Rattle.tree.proofs.Steps.{target-end, target-refused, target-step}
 use Rattle.tree.proofs.walking.search.Goals as goal
 
 pub loop-v-init : goal.loop-v-init
@@ -20,8 +21,7 @@ loop-v-init c = rw (stretch-root c.args.levels.pins) (stands-root c.args.levels 
 
 pub overflow_add-nodes : goal.overflow_add-nodes
 overflow_add-nodes c =
-    let level : Level c.args.levels c.args.s.now c.loop-v.depth = stands-level c.loop-v.invariant.0 c.requires (omega arith) in
-    omega (arith, level)
+    omega (arith, stands-level c.loop-v.invariant.0 c.requires (omega arith))
 
 pub open_node-told-requires : goal.open_node-told-requires
 open_node-told-requires c = stands-opens c.loop-v.invariant.0 c.requires (marks-zero _ _ 0) (omega arith)
@@ -31,17 +31,16 @@ returns-then-told-ge-LIMIT c =
     let a = c.args in
     let l = c.loop-v in
     let e = stands-told l.invariant.0 c.open_node-told.result c.open_node-told.ensures.time ∙ sym c.refusal_of.ensures in
-    sym (target-refused a.levels.pins (times_in a.levels a.s.now) a.target l.invariant.2.0 l.nodes l.v _ _ l.invariant.0.one (omega arith) e) ∙ l.invariant.2.2
+    sym (target-refused a.levels.pins (times_in a.levels a.s.now) a.target l.invariant.2.0 l.nodes l.v _ _ l.invariant.0.one (omega arith) e)
+    ∙ l.invariant.2.2
 
 pub child_of-v-requires : goal.child_of-v-requires
 child_of-v-requires c =
-    let level : Level c.args.levels c.args.s.now c.loop-v.depth = stands-level c.loop-v.invariant.0 c.requires (omega arith) in
-    omega (arith, level)
+    omega (arith, stands-level c.loop-v.invariant.0 c.requires (omega arith))
 
 pub overflow_add-depth : goal.overflow_add-depth
 overflow_add-depth c =
-    let level : Level c.args.levels c.args.s.now c.loop-v.depth = stands-level c.loop-v.invariant.0 c.requires (omega arith) in
-    omega (arith, level)
+    omega (arith, stands-level c.loop-v.invariant.0 c.requires (omega arith))
 
 pub loop-v-smaller : goal.loop-v-smaller
 loop-v-smaller c =
@@ -50,7 +49,7 @@ loop-v-smaller c =
 
 pub loop-v-preserved : goal.loop-v-preserved
 loop-v-preserved c =
-    let time-is : times_in c.args.levels c.args.s.now c.loop-v.v ≡ gives c.open_node-told.result = stands-time c.loop-v.invariant.0 c.open_node-told.ensures.time (omega arith) in
+    let time-is = stands-time c.loop-v.invariant.0 c.open_node-told.ensures.time (omega arith) in
     let a = c.args in
     let l = c.loop-v in
     let x = c.open_node-told.result in
