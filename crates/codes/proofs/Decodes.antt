@@ -1,6 +1,6 @@
 -- Decoding by the definitions: the numbers of a fixed code, a layer merged with the layers after it, and fetches, which find what is
 -- decoded.
-use Rattle.std.proofs.Common.{◌≡◌, ℕ, zero, suc, ◌+◌, ◌-◌, ◌*◌, ◌^◌, ◌<◌, ◌≤◌, Bool, true, false, cond, not, eqb, ltb, List, [], ◌∷◌, length, get_or, take, drop, replicate, sym, refl, ap, ◌∙◌, true≢false, le_trans, le_of_suc-le-suc, not-suc-le-zero, mul-le-mul_right, zero-mul, arith, length-drop, length-take, length-take-le, get_or-take, take-take, drop-drop, ext_get_or, pow_pos, pow-add, ltb-false, le-ltb, lt-ltb, ne_eqb, eqb-true}
+use Rattle.std.proofs.Common.{◌≡◌, ℕ, zero, suc, ◌+◌, ◌-◌, ◌*◌, ◌^◌, ◌<◌, ◌≤◌, Bool, true, false, cond, eqb, ltb, List, [], ◌∷◌, length, get_or, take, drop, replicate, sym, refl, ap, ◌∙◌, true≢false, le_trans, le_of_suc-le-suc, not-suc-le-zero, mul-le-mul_right, zero-mul, arith, length-drop, length-take, length-take-le, get_or-take, take-take, drop-drop, ext_get_or, pow_pos, pow-add, ltb-false, le-ltb, lt-ltb, ne_eqb, eqb-true}
 use native.Mathlib.Decide.{dec_le}
 use lib.ListN.{get_or-eq_default}
 use lib.Arith.{digits_lt}
@@ -204,11 +204,3 @@ says-no undecoded now e s = refl
 pub says-yes : (d : Decoded) {r : Bool} (now : List ℕ) → r ≡ true → Says d r now → d ≡ all now
 says-yes (all vs) now e s = ap all (sym s.1)
 says-yes undecoded now e s = absurd (true≢false (sym e ∙ s))
-
-pub not-true : (b : Bool) → not b ≡ true → b ≡ false
-not-true true e = sym e
-not-true false e = refl
-
-pub not-false : (b : Bool) → not b ≡ false → b ≡ true
-not-false true e = refl
-not-false false e = sym e

@@ -65,7 +65,7 @@ abbrev pub packed : Packed → Outcome ℕ
 packed (packing.Length n) = gives n
 packed (packing.Refused r) = refusal r
 
--- ---- access, search, up_to
+-- ---- access, search, up-to
 
 -- 14, then fetches from the root to rank i
 abbrev pub access_in : List ℕ → ℕ → Levels → Outcome Found
@@ -87,11 +87,11 @@ search_of s t = after (opening s) (search_in s t)
 abbrev pub up_to_in : List ℕ → ℕ → Levels → Outcome Found
 up_to_in s t levels = cond (eqb t (2 ^ 32 - 1)) (gives (found levels.pins 0)) (search_in s (suc t) levels)
 
--- up_to t, which opens first
+-- up-to t, which opens first
 unfoldable pub up_to_of : List ℕ → ℕ → Outcome Found
 up_to_of s t = after (opening s) (up_to_in s t)
 
--- of access, search and up_to
+-- of access, search and up-to
 abbrev pub walked : Walked → Outcome Found
 walked (walking.Found f) = gives f
 walked (walking.Refused r) = refusal r

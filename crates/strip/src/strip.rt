@@ -41,7 +41,7 @@ pub enum Repeated {
     Refused(Refusal),
 }
 
-// The time at a position, the position that a search finds, or the number of strikes that up_to counts, with the nodes opened.
+// The time at a position, the position that a search finds, or the number of strikes that up-to counts, with the nodes opened.
 #[derive(Clone, Copy)]
 pub enum Walked {
     Found(Found),

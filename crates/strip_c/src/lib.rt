@@ -41,7 +41,7 @@ fn refused(r: Refusal) -> Answer
     }
 }
 
-// The answer of an access, a search or up_to.
+// The answer of an access, a search or up-to.
 fn found(r: Walked) -> Answer
     ensures { result ≡ of_walk (walked r) }
 {

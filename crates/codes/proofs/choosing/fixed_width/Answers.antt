@@ -8,7 +8,8 @@ loop-w-init c = (omega arith, λ vs h. omega arith)
 
 pub loop-w-preserved : goal.loop-w-preserved
 loop-w-preserved c =
-    let w = c.loop-w.w in let n : get_or c.args.over w 0 ≡ 0 → ⊥ = c.if-over-w-ne0.true in
+    let w = c.loop-w.w in
+    let n : get_or c.args.over w 0 ≡ 0 → ⊥ = c.if-over-w-ne0.true in
     (omega arith, λ vs h. omega (arith, rest_some w vs h.within (λ z. n (h.each w (omega arith) ∙ z))))
 
 pub returns-else-over-w-ne0 : goal.returns-else-over-w-ne0

@@ -17,7 +17,9 @@ pub returns-then-choice-code : goal.returns-then-choice-code
 returns-then-choice-code c = sym (other-code c.args.code c.args.values.now c.args.part.now (rw c.choose-choice.ensures at c.if-choice-code.true))
 
 pub overflow_add-size : goal.overflow_add-size
-overflow_add-size c = let vs = c.args.values.now in omega (arith, ap (λ (x : Choice). x.size) c.choose-choice.ensures, chosen-at-most vs (λ j. (c.type_inv.values j).fits))
+overflow_add-size c =
+    let vs = c.args.values.now in
+    omega (arith, ap (λ (x : Choice). x.size) c.choose-choice.ensures, chosen-at-most vs (λ j. (c.type_inv.values j).fits))
 
 pub returns-then-part-size : goal.returns-then-part-size
 returns-then-part-size c =
@@ -26,7 +28,9 @@ returns-then-part-size c =
 
 pub returns : goal.returns
 returns c =
-    let vs = c.args.values.now in let bytes = c.args.part.now in let s = its_size vs c.args.code c.choose-choice.result c.choose-choice.ensures c.if-choice-code.false in
+    let vs = c.args.values.now in
+    let bytes = c.args.part.now in
+    let s = its_size vs c.args.code c.choose-choice.result c.choose-choice.ensures c.if-choice-code.false in
     let w : Within 8 bytes = λ j. (c.type_inv.part j).fits in
     rw s.1 at c.zeros_after.ensures ∙ sym (same-part c.args.code (length vs) bytes vs c.requires.part_value w (rw s.1 at c.if-part-size.false))
     ∙ sym (chosen-code c.args.code vs bytes s.0)

@@ -16,4 +16,6 @@ returns-then-end-eq0 c =
     sym (eq-eqb _ 0 (none c.args.part.now c.args.size e))
 
 pub returns : goal.returns
-returns c = let l = c.low_bits.ensures.1 in rw (last-bits c.args.part.now c.args.size (omega arith) (omega arith) (omega arith), ← c.byte.ensures.1) (rw l refl)
+returns c =
+    let l = c.low_bits.ensures.1 in
+    rw (last-bits c.args.part.now c.args.size (omega arith) (omega arith) (omega arith), ← c.byte.ensures.1) (rw l refl)

@@ -9,7 +9,8 @@ loop-i-init c = (omega arith, omega arith, refl)
 
 pub loop-i-preserved : goal.loop-i-preserved
 loop-i-preserved c =
-    let i = c.loop-i.i in let at = (c.args.first + i * 8) * 8 in
+    let i = c.loop-i.i in
+    let at = (c.args.first + i * 8) * 8 in
     let e : (i + 1) * 64 ≡ i * 64 + 64 = omega arith in
     let e' : c.args.first * 8 + i * 64 ≡ at = omega arith in
     let more = rw e' at (ones-more c.args.part.now (c.args.first * 8) (i * 64) 64) in

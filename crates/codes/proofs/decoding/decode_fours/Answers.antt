@@ -20,7 +20,9 @@ read_word-x-requires c =
 
 pub loop-i-preserved : goal.loop-i-preserved
 loop-i-preserved c =
-    let one = c.put_two.ensures in let two = c.put_two-in-loop-i.ensures in let t : c.loop-i.i + 4 ≤ length c.args.values.now = omega arith in
+    let one = c.put_two.ensures in
+    let two = c.put_two-in-loop-i.ensures in
+    let t : c.loop-i.i + 4 ≤ length c.args.values.now = omega arith in
     let room = mul-le-mul_right c.args.w t in
     let p : (c.loop-i.i + 2) * c.args.w ≡ c.loop-i.i * c.args.w + 2 * c.args.w = omega arith in
     let x = last-four c.args.part.now (c.loop-i.i * c.args.w) c.args.w c.read_word-x.result (omega arith) c.read_word-x.ensures in

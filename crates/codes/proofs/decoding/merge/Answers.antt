@@ -16,7 +16,10 @@ loop-i-init c =
 
 pub merge_group-kept-requires : goal.merge_group-kept-requires
 merge_group-kept-requires c =
-    let r = c.radix_of-radix.ensures in let m = c.loop-i.invariant.5 in let k = c.least-k.ensures in let h : c.least-k.result ≤ 56 / c.args.b = omega arith in
+    let r = c.radix_of-radix.ensures in
+    let m = c.loop-i.invariant.5 in
+    let k = c.least-k.ensures in
+    let h : c.least-k.result ≤ 56 / c.args.b = omega arith in
     let e : c.loop-i.i - c.least-k.result + c.least-k.result ≡ c.loop-i.i = omega arith in
     record {
       radix = (
@@ -36,7 +39,9 @@ merge_group-kept-requires c =
 
 pub loop-i-preserved : goal.loop-i-preserved
 loop-i-preserved c =
-    let r = c.radix_of-radix.ensures in let k = c.least-k.result in let e : c.loop-i.i ≡ c.loop-i.i - k + k = omega (arith, c.least-k.ensures) in
+    let r = c.radix_of-radix.ensures in
+    let k = c.least-k.result in
+    let e : c.loop-i.i ≡ c.loop-i.i - k + k = omega (arith, c.least-k.ensures) in
     let m = rw r.0 at (c.merge_group-kept.ensures (take c.args.rests c.args.values.now) (rw r.0 (rw e at c.loop-i.invariant.5))) in
     let s = sum-take-add (c.loop-i.i - k) k (continuations_at c.args.part.now c.args.at c.args.n) in
     (omega arith, omega arith, omega (arith, m.ones, rw e at c.loop-i.invariant.5.ones), c.loop-i.invariant.3, c.loop-i.invariant.4, m)

@@ -58,8 +58,10 @@ overflow_cast-values c =
 pub loop-j-preserved : goal.loop-j-preserved
 loop-j-preserved c =
     let last : Last c.args.radix.bits c.args.part.now c.loop-j.values c.args.span.at c.args.span.n c.args.span.from (c.loop-j.j - 1) c.loop-j.kept (c.loop-j.mores % 2) = let e : c.loop-j.j ≡ suc (c.loop-j.j - 1) = omega arith in rw (← e, ← c.loop-j.invariant.3) at (last_of c.args.radix.bits c.args.part.now c.loop-j.values c.args.span.at c.args.span.n c.args.span.from (c.loop-j.j - 1) c.loop-j.kept (rw e at c.loop-j.invariant.2)) in
-    let p = c.requires in let z = last in
-    let b = c.args.radix.bits in let x = c.wide_value.result * (c.loop-j.mores % 2) * c.args.radix.power + c.low_bits.result in
+    let p = c.requires in
+    let z = last in
+    let b = c.args.radix.bits in
+    let x = c.wide_value.result * (c.loop-j.mores % 2) * c.args.radix.power + c.low_bits.result in
     let s : c.loop-j.j ≡ suc (c.loop-j.j - 1) = omega arith in
     let y = rw (← s) at (last-chunk b c.args.part.now c.args.span.at c.args.span.n c.args.span.from (c.loop-j.j - 1) (rw s at (group-whole c.loop-j.invariant.2))) in
     let e : x ≡ get_or c.loop-j.values (c.loop-j.kept - c.loop-j.mores % 2) 0 * (c.loop-j.mores % 2) * 2 ^ b + number (take b (drop ((c.args.span.from + (c.loop-j.j - 1)) * b) (chunks_at c.args.part.now c.args.span.at c.args.span.n))) =

@@ -16,7 +16,8 @@ bounds-values-i-2 c = simp length-set (omega arith)
 
 pub returns : goal.returns
 returns c = λ bytes h e known q k.
-    let vs = c.args.values.now in let p : (c.args.i + 1) * c.args.w ≡ c.args.i * c.args.w + c.args.w = omega arith in
+    let vs = c.args.values.now in
+    let p : (c.args.i + 1) * c.args.w ≡ c.args.i * c.args.w + c.args.w = omega arith in
     let l = last-two bytes (c.args.i * c.args.w) c.args.w c.args.x h e in
     let first = more vs c.args.i c.low_bits.result (fixed_value c.args.w bytes) (omega arith) known (c.low_bits.ensures.1 ∙ l.0) in
     more (set vs c.args.i c.low_bits.result) (c.args.i + 1) c.low_bits-2.result (fixed_value c.args.w bytes) (simp length-set (omega arith)) first

@@ -17,5 +17,6 @@ shape_of-work c = c.loop-i.invariant.1
 
 pub returns : goal.returns
 returns c =
-    let vs = c.args.values.now in let e : c.loop-i.i ≡ length vs = omega arith in
+    let vs = c.args.values.now in
+    let e : c.loop-i.i ≡ length vs = omega arith in
     rw (e, take-length vs) at c.loop-i.invariant.2

@@ -49,7 +49,8 @@ loop-layer-preserved c =
     let bs = bits_of c.args.part.now in
     let one : number (take 1 (drop (c.loop-layer.layer.at + c.loop-layer.layer.index) bs)) ≡ 0 → ⊥ = λ z. omega arith in
     let more = answer-more bs (length-fixed 8 c.args.part.now) c.args.b c.loop-layer.layer.at c.loop-layer.layer.count c.loop-layer.layer.index c.loop-layer.shift c.loop-layer.acc c.loop-layer.invariant.0 (omega arith) one in
-    let t = c.next_layer-layer.ensures.next_layer in let k : c.next_layer-layer.result.index < c.next_layer-layer.result.count = omega (arith, t.index_is, t.count_is) in
+    let t = c.next_layer-layer.ensures.next_layer in
+    let k : c.next_layer-layer.result.index < c.next_layer-layer.result.count = omega (arith, t.index_is, t.count_is) in
     let few : c.next_layer-layer.result.count ≤ c.loop-layer.layer.count = omega (arith, t.count_is, sum-part-le c.args.part.now c.loop-layer.layer.at c.loop-layer.layer.count) in (
       k,
       omega arith,

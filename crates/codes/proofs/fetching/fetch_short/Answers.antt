@@ -11,7 +11,9 @@ returns-then-w-gt25 c = rw (← c.kind_of-kind.ensures, c.in-Fixed.is, lt-ltb 25
 
 pub returns-then-part-lt4 : goal.returns-then-part-lt4
 unfolding short_at
-returns-then-part-lt4 c = let part = c.args.part.now in rw (← c.kind_of-kind.ensures, c.in-Fixed.is, le-ltb 25 c.in-Fixed.w (omega arith), lt-ltb (length (bits_of part)) 32 (rw (length-fixed 8 part) (omega arith)))
+returns-then-part-lt4 c =
+    let part = c.args.part.now in
+    rw (← c.kind_of-kind.ensures, c.in-Fixed.is, le-ltb 25 c.in-Fixed.w (omega arith), lt-ltb (length (bits_of part)) 32 (rw (length-fixed 8 part) (omega arith)))
 
 pub overflow_mul-index : goal.overflow_mul-index
 overflow_mul-index c =

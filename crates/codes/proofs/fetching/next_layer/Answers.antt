@@ -14,7 +14,8 @@ count_on-all-requires c = record { counted = (c.count_on-before.ensures.counted_
 
 pub returns : goal.returns
 returns c =
-    let before = c.count_on-before.ensures.counted_2 in let first : c.args.layer.at + c.args.layer.index - c.args.layer.at ≡ c.args.layer.index = omega arith in
+    let before = c.count_on-before.ensures.counted_2 in
+    let first : c.args.layer.at + c.args.layer.index - c.args.layer.at ≡ c.args.layer.index = omega arith in
     let last : c.args.layer.at + c.args.layer.count - c.args.layer.at ≡ c.args.layer.count = omega arith in record {
       next_layer = record {
         begins = refl;

@@ -36,7 +36,8 @@ overflow_add-joined c =
 
 pub loop-i-preserved : goal.loop-i-preserved
 loop-i-preserved c =
-    let us = c.args.values.now in let ws = drop c.args.from us in
+    let us = c.args.values.now in
+    let ws = drop c.args.from us in
     let at = c.args.from + c.loop-i.i in
     let e : get_or c.loop-i.values at 0 ≡ get_or ws c.loop-i.i 0 = get_or-there c.loop-i.values us at c.loop-i.invariant.3 0 ∙ sym (get_or-drop c.args.from us c.loop-i.i 0) in
     let q = get_or c.loop-i.values at 0 / 2 ^ c.args.radix.bits in

@@ -20,17 +20,21 @@ loop-i-init c = (omega arith, omega arith, refl, refl, refl, wrote_nothing c.arg
 
 pub joined_chunks-group-requires : goal.joined_chunks-group-requires
 joined_chunks-group-requires c =
-    let b = c.args.radix.bits in let t : c.least-k.result ≤ 32 / b = omega arith in
+    let b = c.args.radix.bits in
+    let t : c.least-k.result ≤ 32 / b = omega arith in
     record { bits_bound = (omega arith, omega arith, omega arith); n_in_bounds = (omega arith, fits b _ t) }
 
 pub overflow_mul-k : goal.overflow_mul-k
 overflow_mul-k c =
-    let b = c.args.radix.bits in let t : c.least-k.result ≤ 32 / b = omega arith in
+    let b = c.args.radix.bits in
+    let t : c.least-k.result ≤ 32 / b = omega arith in
     omega (arith, fits b _ t)
 
 pub put-p-requires : goal.put-p-requires
 put-p-requires c =
-    let k = c.least-k.result in let w = c.loop-i.invariant.5 in let t : k ≤ 32 / c.args.radix.bits = omega arith in
+    let k = c.least-k.result in
+    let w = c.loop-i.invariant.5 in
+    let t : k ≤ 32 / c.args.radix.bits = omega arith in
     let s : c.loop-i.i + k ≤ c.args.n = omega arith in
     let vs = take k (drop c.loop-i.i c.loop-i.values) in
     let n = length-fixed-take c.args.radix.bits (drop c.loop-i.i c.loop-i.values) k (simp length-drop (omega arith)) in
@@ -43,7 +47,11 @@ loop-i-smaller c =
 
 pub loop-i-preserved : goal.loop-i-preserved
 loop-i-preserved c =
-    let us = c.args.values.now in let ds = c.loop-i.invariant.3 in let k = c.least-k.result in let u = c.put-p.ensures in let vs = take k (drop c.loop-i.i us) in
+    let us = c.args.values.now in
+    let ds = c.loop-i.invariant.3 in
+    let k = c.least-k.result in
+    let u = c.put-p.ensures in
+    let vs = take k (drop c.loop-i.i us) in
     let n = length-fixed-take c.args.radix.bits (drop c.loop-i.i us) k (simp length-drop (omega arith)) in
     let bs = bits-number (fixed c.args.radix.bits vs) (bits-fixed c.args.radix.bits vs) n in (
       omega arith,

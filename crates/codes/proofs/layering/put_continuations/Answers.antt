@@ -10,14 +10,18 @@ loop-i-init c = (omega arith, wrote_nothing c.args.out.now c.args.writer, omega 
 
 pub put-p-requires : goal.put-p-requires
 put-p-requires c =
-    let k = c.least-k.result in let w = c.loop-i.invariant.1 in let vs = drop c.loop-i.i c.args.values.now in
+    let k = c.least-k.result in
+    let w = c.loop-i.invariant.1 in
+    let vs = drop c.loop-i.i c.args.values.now in
     let n = length-continuations c.args.radix.bits vs k (simp length-drop (omega arith)) in
     let x = number_lt (continuations c.args.radix.bits vs k) (bits-continuations c.args.radix.bits (take k vs)) n in
     omega (arith, c.joined_continuations.ensures, length-continuations c.args.radix.bits c.args.values.now c.loop-i.i (omega arith))
 
 pub loop-i-preserved : goal.loop-i-preserved
 loop-i-preserved c =
-    let k = c.least-k.result in let u = c.put-p.ensures in let vs = drop c.loop-i.i c.args.values.now in
+    let k = c.least-k.result in
+    let u = c.put-p.ensures in
+    let vs = drop c.loop-i.i c.args.values.now in
     let n = length-continuations c.args.radix.bits vs k (simp length-drop (omega arith)) in
     let b = bits-number (continuations c.args.radix.bits vs k) (bits-continuations c.args.radix.bits (take k vs)) n in
     (omega arith, rw (continuations-add c.args.radix.bits c.args.values.now c.loop-i.i k) (wrote-both c.loop-i.invariant.1 (rw (c.joined_continuations.ensures, b) at u.0)), u.1)

@@ -12,19 +12,27 @@ loop-left-init c = (omega arith, refl, refl, c.requires.le_b.4, omega arith, ([]
 
 pub put_continuations-p-requires : goal.put_continuations-p-requires
 put_continuations-p-requires c =
-    let l = c.loop-left in let r = c.radix_of-radix.ensures in let b = c.args.b in let w = l.invariant.5.1 in
+    let l = c.loop-left in
+    let r = c.radix_of-radix.ensures in
+    let b = c.args.b in
+    let w = l.invariant.5.1 in
     rw (r.1, r.0) (omega (arith, layer-room b l.left l.values l.invariant.5.0 _ (omega arith) (omega arith) l.invariant.3 l.invariant.5.2))
 
 pub put_chunks-chunks-requires : goal.put_chunks-chunks-requires
 put_chunks-chunks-requires c =
-    let l = c.loop-left in let r = c.radix_of-radix.ensures in let b = c.args.b in let w = l.invariant.5.1 in
+    let l = c.loop-left in
+    let r = c.radix_of-radix.ensures in
+    let b = c.args.b in
+    let w = l.invariant.5.1 in
     let u = rw r.0 at c.put_continuations-p.ensures.0 in
     rw (r.1, r.0)
     (omega (arith, layer-room b l.left l.values l.invariant.5.0 _ (omega arith) (omega arith) l.invariant.3 l.invariant.5.2, length-continuations b l.values l.left (omega arith)))
 
 pub loop-left-smaller : goal.loop-left-smaller
 loop-left-smaller c =
-    let l = c.loop-left in let r = c.radix_of-radix.ensures in let us = take l.left l.values in
+    let l = c.loop-left in
+    let r = c.radix_of-radix.ensures in
+    let us = take l.left l.values in
     let vs = take c.put_chunks-chunks.result.left c.put_chunks-chunks.new.values in
     let n : length vs ≡ c.put_chunks-chunks.result.left = length-take-le c.put_chunks-chunks.result.left c.put_chunks-chunks.new.values (omega (arith, c.requires.le_b.3)) in
     let q : length vs + sum vs ≤ sum us = rw (c.put_chunks-chunks.ensures.3, r.0) (rest_sum c.args.b us c.requires.le_b.0) in
@@ -32,8 +40,13 @@ loop-left-smaller c =
 
 pub loop-left-preserved : goal.loop-left-preserved
 loop-left-preserved c =
-    let l = c.loop-left in let r = c.radix_of-radix.ensures.0 in let a = c.args in let g = c.requires.le_b in let us = take l.left l.values in
-    let vs = c.put_chunks-chunks.new.values in let e : take c.put_chunks-chunks.result.left vs ≡ rest a.b us = rw r at c.put_chunks-chunks.ensures.3 in (
+    let l = c.loop-left in
+    let r = c.radix_of-radix.ensures.0 in
+    let a = c.args in
+    let g = c.requires.le_b in
+    let us = take l.left l.values in
+    let vs = c.put_chunks-chunks.new.values in
+    let e : take c.put_chunks-chunks.result.left vs ≡ rest a.b us = rw r at c.put_chunks-chunks.ensures.3 in (
       omega arith,
       omega arith,
       drop-later vs l.values l.left c.put_chunks-chunks.ensures.4 a.n (omega arith) ∙ l.invariant.2,

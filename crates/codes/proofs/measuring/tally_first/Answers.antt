@@ -12,7 +12,9 @@ pub count-requires : goal.count-requires
 count-requires c = (c.loop-i.invariant.1, λ z. omega (arith, c.loop-i.invariant.2 z, tally-few z c.loop-i.i c.args.values.now))
 
 pub loop-i-preserved : goal.loop-i-preserved
-loop-i-preserved c = let vs = c.args.values.now in (omega arith, c.count.ensures.counts_len, λ z. omega (arith, c.count.ensures.by_index z, c.loop-i.invariant.2 z, tally-next z vs c.loop-i.i (omega arith)))
+loop-i-preserved c =
+    let vs = c.args.values.now in
+    (omega arith, c.count.ensures.counts_len, λ z. omega (arith, c.count.ensures.by_index z, c.loop-i.invariant.2 z, tally-next z vs c.loop-i.i (omega arith)))
 
 pub returns : goal.returns
 returns c =

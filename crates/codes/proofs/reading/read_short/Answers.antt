@@ -14,7 +14,8 @@ overflow_cast-result c =
 
 pub returns : goal.returns
 returns c =
-    let first = c.least-first.result in let l : first * 8 ≤ c.args.at = omega arith in
+    let first = c.least-first.result in
+    let l : first * 8 ≤ c.args.at = omega arith in
     let h : c.args.at + c.args.w ≤ first * 8 + 32 = omega arith in
     let law = read-part c.args.part.now c.args.at c.args.w first 4 _ l (after c.args.at c.args.w first l h) (omega arith) in
     c.low_bits.ensures.1 ∙ rw c.four_bytes.ensures (sym law)

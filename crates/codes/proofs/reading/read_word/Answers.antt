@@ -11,11 +11,13 @@ after at w first l h = omega arith
 
 pub returns-then-end-lt8 : goal.returns-then-end-lt8
 returns-then-end-lt8 c =
-    let bytes = c.args.part.now in let whole : take (length bytes * 8) (bits_of bytes) ≡ bits_of bytes = take_all (length bytes * 8) (bits_of bytes) (rw (length-fixed 8 bytes) (omega arith)) in
+    let bytes = c.args.part.now in
+    let whole : take (length bytes * 8) (bits_of bytes) ≡ bits_of bytes = take_all (length bytes * 8) (bits_of bytes) (rw (length-fixed 8 bytes) (omega arith)) in
     rw c.short_word.ensures (sym (rw whole at (read-part bytes c.args.at c.args.w 0 (length bytes) (length bytes * 8 - c.args.at - c.args.w) (omega arith) (omega arith) (omega arith))))
 
 pub returns : goal.returns
 returns c =
-    let first = c.least-first.result in let l : first * 8 ≤ c.args.at = omega arith in
+    let first = c.least-first.result in
+    let l : first * 8 ≤ c.args.at = omega arith in
     let h : c.args.at + c.args.w ≤ first * 8 + 64 = omega arith in
     rw c.word_at.ensures (sym (read-part c.args.part.now c.args.at c.args.w first 8 _ l (after c.args.at c.args.w first l h) (omega arith)))

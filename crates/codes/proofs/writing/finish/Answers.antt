@@ -9,14 +9,20 @@ use Rattle.codes.proofs.writing.finish.Goals as goal
 
 pub returns-then-have-eq0 : goal.returns-then-have-eq0
 returns-then-have-eq0 c =
-    let q = c.drain-last.result in let o = c.drain-last.new.out in let w = c.drain-last.ensures.0 in let z : q.have ≡ 0 = omega arith in
+    let q = c.drain-last.result in
+    let o = c.drain-last.new.out in
+    let w = c.drain-last.ensures.0 in
+    let z : q.have ≡ 0 = omega arith in
     let f = within-take 8 q.at o (λ i. (c.type_inv.out i).fits) in
     let s : padded (written o q) ≡ take q.at o = rw z (padded-whole (take q.at o) q.acc f) in
     (omega arith, sym s ∙ ap padded (w.spelled ∙ append-nil (written c.args.out.now c.args.writer)), w.later)
 
 pub returns : goal.returns
 returns c =
-    let q = c.drain-last.result in let o = c.drain-last.new.out in let w = c.drain-last.ensures.0 in let f = within-take 8 q.at o (λ i. (c.slice_known-2-1.given i).fits) in
+    let q = c.drain-last.result in
+    let o = c.drain-last.new.out in
+    let w = c.drain-last.ensures.0 in
+    let f = within-take 8 q.at o (λ i. (c.slice_known-2-1.given i).fits) in
     let l : q.at < length o = omega arith in
     let s : take (q.at + 1) (set o q.at c.byte_above.result) ≡ padded (written o q) =
     rw (add-one q.at, take-suc-set o q.at c.byte_above.result l, c.byte_above.ensures) (sym (padded-last (take q.at o) q.have q.acc f (omega arith) (omega arith))) in (

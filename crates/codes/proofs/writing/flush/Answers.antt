@@ -14,8 +14,10 @@ bounds-out-at-4 c = simp length-set (omega arith)
 
 pub returns : goal.returns
 returns c =
-    let at = c.args.writer.at in let h = c.args.writer.have - 32 in
-    let o = c.args.out.now in let o₁ = set o at c.byte_above.result in
+    let at = c.args.writer.at in
+    let h = c.args.writer.have - 32 in
+    let o = c.args.out.now in
+    let o₁ = set o at c.byte_above.result in
     let o₂ = set o₁ (at + 1) c.byte_above-2.result in
     let o₃ = set o₂ (at + 2) c.byte_above-3.result in (
       wrote-both

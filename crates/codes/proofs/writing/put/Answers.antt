@@ -9,5 +9,6 @@ returns-then-joined-lt32 c = (wrote-bits c.args.out.now c.args.writer (64 - c.ar
 
 pub returns : goal.returns
 returns c =
-    let f = c.flush.ensures in let b = wrote-bits c.args.out.now c.args.writer (64 - c.args.w) c.args.w c.args.x c.join.result (omega arith) (omega arith) c.join.ensures in
+    let f = c.flush.ensures in
+    let b = wrote-bits c.args.out.now c.args.writer (64 - c.args.w) c.args.w c.args.x c.join.result (omega arith) (omega arith) c.join.ensures in
     (rw (append-nil (bits c.args.w c.args.x)) at (wrote-both b f.0), f.1)

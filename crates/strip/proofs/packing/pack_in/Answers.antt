@@ -14,7 +14,9 @@ stored-front : (xs old now : List ℕ) → now ≡ stored_values xs ++ drop (len
 stored-front xs old now e = rw e (take_at (stored_values xs) (drop (length xs) old) (length xs) (stored-levels.count xs))
 
 pub slice_bounds-pack_values-end-2 : goal.slice_bounds-pack_values-end-2
-slice_bounds-pack_values-end-2 c = let xs = c.args.times.now in sym (ap length (stored-front xs _ _ c.construct.ensures) ∙ stored-levels.count xs)
+slice_bounds-pack_values-end-2 c =
+    let xs = c.args.times.now in
+    sym (ap length (stored-front xs _ _ c.construct.ensures) ∙ stored-levels.count xs)
 
 pub pack_values-requires : goal.pack_values-requires
 pack_values-requires c =

@@ -6,7 +6,9 @@ pub loop-i-init : goal.loop-i-init
 loop-i-init c = moved_none c.args.times.now c.args.above c.args.count (omega arith)
 
 pub loop-i-preserved : goal.loop-i-preserved
-loop-i-preserved c = let p = c.requires in moved-next c.args.times.now c.args.above c.args.count c.loop-i.i c.loop-i.times p.0 (omega arith) p.2 c.loop-i.invariant
+loop-i-preserved c =
+    let p = c.requires in
+    moved-next c.args.times.now c.args.above c.args.count c.loop-i.i c.loop-i.times p.0 (omega arith) p.2 c.loop-i.invariant
 
 pub shape_of-times : goal.shape_of-times
 shape_of-times c = c.loop-i.invariant.kept
