@@ -1,5 +1,5 @@
 -- The chosen code holds the values and has the fewest bits; on a tie it has the least number, so a fixed code goes first, then the smaller b.
-use Rattle.std.proofs.Common.{◌≡◌, ℕ, zero, suc, ◌+◌, ◌-◌, ◌*◌, ◌<◌, ◌≤◌, Bool, true, false, cond, ltb, ◌⊎◌, List, length, sym, refl, ◌∙◌, inl, inr, eq-or-lt_of_le, mul-le-mul_left, add-one, arith, ltb-false, ltb-true, le-ltb, lt-ltb}
+use Rattle.std.proofs.Common.{◌≡◌, ℕ, zero, suc, ◌+◌, ◌-◌, ◌*◌, ◌<◌, ◌≤◌, Bool, true, false, cond, ltb, ◌⊎◌, List, length, refl, inl, inr, eq-or-lt_of_le, mul-le-mul_left, arith, ltb-false, ltb-true}
 use Rattle.codes.specs.declared.choosing.Choice.{Choice}
 use Rattle.codes.specs.declared.kinds.Kind.{Kind}
 use Rattle.codes.specs.declared.kinds.Kind.TheVariants.{Fixed, Chunked, Refused}
@@ -15,43 +15,28 @@ use Rattle.codes.proofs.Widths.{widest-holds, widest-least, widest-le}
 kind-of-chunked : (b : ℕ) → 1 ≤ b → b ≤ 8 → kind_of (64 + b) ≡ Chunked b
 kind-of-chunked b l h = let e : 64 + b - 64 ≡ b = omega arith in rw e at (kind-chunked (64 + b) (omega arith) (omega arith))
 
-size-fixed : (w : ℕ) (vs : List ℕ) → w ≤ 32 → size w vs ≡ length vs * w
+pub size-fixed : (w : ℕ) (vs : List ℕ) → w ≤ 32 → size w vs ≡ length vs * w
 unfolding kind_bits
 size-fixed w vs h = rw (kind-fixed w (omega arith)) (length-fixed w vs)
 
-size-chunked : (b : ℕ) (vs : List ℕ) → 1 ≤ b → b ≤ 8 → size (64 + b) vs ≡ length (chunked b vs)
+pub size-chunked : (b : ℕ) (vs : List ℕ) → 1 ≤ b → b ≤ 8 → size (64 + b) vs ≡ length (chunked b vs)
 unfolding kind_bits
 size-chunked b vs l h = rw (kind-of-chunked b l h)
 
 -- ---- the choice, step by step
 
-pub best-first : (vs : List ℕ) → best_chunked 0 vs ≡ record { code = 65; size = length (chunked 1 vs) }
+-- of no chunked code but the first
+pub best-first : (vs : List ℕ) → best_chunked 0 vs ≡ offer 65 vs
 unfolding best_chunked
-best-first vs = rw (size-chunked 1 vs (omega arith) (omega arith))
+best-first vs = refl
 
-module _ (k : ℕ) (vs : List ℕ) (s : ℕ) (h : k < 7) (e : s ≡ length (chunked (k + 2) vs)) where
-  sized : s ≡ size (66 + k) vs
-  sized = let n : 66 + k ≡ 64 + (k + 2) = omega arith in rw n (e ∙ sym (size-chunked (k + 2) vs (omega arith) (omega arith)))
-
-  pub best-next : s < (best_chunked k vs).size → best_chunked (k + 1) vs ≡ record { code = 66 + k; size = s }
-  unfolding best_chunked
-  best-next l = rw (add-one k, lt-ltb (size (66 + k) vs) (best_chunked k vs).size (omega (arith, sized)), sized)
-
-  pub best-same : (best_chunked k vs).size ≤ s → best_chunked (k + 1) vs ≡ best_chunked k vs
-  unfolding best_chunked
-  best-same l = rw (add-one k, le-ltb (size (66 + k) vs) (best_chunked k vs).size (omega (arith, sized)))
-
-module _ (vs : List ℕ) (w : ℕ) (e : w ≡ widest vs) where
-  fixed-sized : length vs * w ≡ size (widest vs) vs
-  fixed-sized = rw e (sym (size-fixed (widest vs) vs (widest-le vs)))
-
-  pub chosen-chunked : (best_chunked 7 vs).size < length vs * w → best_chunked 7 vs ≡ chosen vs
-  unfolding chosen
-  chosen-chunked l = sym (rw (lt-ltb (best_chunked 7 vs).size (size (widest vs) vs) (omega (arith, fixed-sized))))
-
-  pub chosen-fixed : length vs * w ≤ (best_chunked 7 vs).size → record { code = w; size = length vs * w } ≡ chosen vs
-  unfolding chosen
-  chosen-fixed l = rw (le-ltb (best_chunked 7 vs).size (size (widest vs) vs) (omega (arith, fixed-sized)), fixed-sized, e)
+-- and of the one for b, too
+pub best-next : (b : ℕ) (vs : List ℕ) → 2 ≤ b → best_chunked (b + 1 - 2) vs ≡ better (best_chunked (b - 2) vs) (offer (64 + b) vs)
+unfolding best_chunked
+best-next b vs l =
+    let e : b + 1 - 2 ≡ suc (b - 2) = omega arith in
+    let n : 66 + (b - 2) ≡ 64 + b = omega arith in
+    rw (e, n)
 
 -- ---- what holds of the chosen code
 

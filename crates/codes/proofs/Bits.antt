@@ -22,7 +22,7 @@ within-take w (suc n) (v ∷ vs) h (suc j) = within-take w n vs (λ i. h (suc i)
 pub within-drop : (w n : ℕ) (vs : List ℕ) → Within w vs → Within w (drop n vs)
 within-drop w n vs h j = rw get_or-drop (h (n + j))
 
-bits-bits : (w x : ℕ) → Within 1 (bits w x)
+pub bits-bits : (w x : ℕ) → Within 1 (bits w x)
 unfolding bits
 bits-bits zero x j = omega arith
 bits-bits (suc w) x zero = omega arith

@@ -8,17 +8,9 @@ pub kind-fixed : (code : ℕ) → code < 33 → kind_of code ≡ Fixed code
 unfolding kind_of
 kind-fixed code h = rw (lt-ltb code 33 h)
 
-pub kind-between : (code : ℕ) → 33 ≤ code → code < 65 → kind_of code ≡ Refused
-unfolding kind_of
-kind-between code l h = rw (le-ltb code 33 l, lt-ltb code 65 h)
-
 pub kind-chunked : (code : ℕ) → 65 ≤ code → code < 73 → kind_of code ≡ Chunked (code - 64)
 unfolding kind_of
 kind-chunked code l h = rw (le-ltb code 33 (omega arith), le-ltb code 65 l, lt-ltb code 73 h)
-
-pub kind-above : (code : ℕ) → 73 ≤ code → kind_of code ≡ Refused
-unfolding kind_of
-kind-above code l = rw (le-ltb code 33 (omega arith), le-ltb code 65 (omega arith), le-ltb code 73 l)
 
 pub kind-known : (code : ℕ) → Known (kind_of code) code
 unfolding kind_of

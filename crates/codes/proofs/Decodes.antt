@@ -1,6 +1,6 @@
 -- Decoding by the definitions: the numbers of a fixed code, a layer merged with the layers after it, and fetches, which find what is
 -- decoded.
-use Rattle.std.proofs.Common.{◌≡◌, ℕ, zero, suc, ◌+◌, ◌-◌, ◌*◌, ◌^◌, ◌<◌, ◌≤◌, Bool, true, false, cond, eqb, ltb, List, [], ◌∷◌, length, get_or, take, drop, replicate, sym, refl, ap, ◌∙◌, true≢false, le_trans, le_of_suc-le-suc, not-suc-le-zero, mul-le-mul_right, zero-mul, arith, length-drop, length-take, length-take-le, get_or-take, take-take, drop-drop, ext_get_or, pow_pos, pow-add, ltb-false, le-ltb, lt-ltb, ne_eqb, eqb-true}
+use Rattle.std.proofs.Common.{Some, None, ◌≡◌, ℕ, zero, suc, ◌+◌, ◌-◌, ◌*◌, ◌^◌, ◌<◌, ◌≤◌, Bool, true, false, cond, eqb, ltb, List, [], ◌∷◌, length, get_or, take, drop, replicate, sym, refl, ap, ◌∙◌, true≢false, le_trans, le_of_suc-le-suc, not-suc-le-zero, mul-le-mul_right, zero-mul, arith, length-drop, length-take, length-take-le, get_or-take, take-take, drop-drop, ext_get_or, pow_pos, pow-add, ltb-false, le-ltb, lt-ltb, ne_eqb, eqb-true}
 use native.Mathlib.Decide.{dec_le}
 use lib.ListN.{get_or-eq_default}
 use lib.Arith.{digits_lt}
@@ -73,14 +73,13 @@ pub layers-step : (f b n : ℕ) (bs : List ℕ) → n + n * b ≤ length bs
 unfolding decoded_layers
 layers-step f b n bs h = rw (le-ltb (length bs) (n + n * b) h)
 
--- the same by the place in the part
-pub layers-at : (f b n at rests : ℕ) (bs : List ℕ) → 1 ≤ f → at + n + n * b ≤ length bs → rests ≡ sum (take n (drop at bs))
-    → decoded_layers f b n (drop at bs) ≡ layered b (take n (drop at bs)) (drop n (drop at bs)) (decoded_layers (f - 1) b rests (drop (at + n + n * b) bs))
-layers-at zero b n at rests bs h l e = absurd (not-suc-le-zero h)
-layers-at (suc f) b n at rests bs h l e =
-    let p : at + n + n * b ≡ at + (n + n * b) = omega arith in
+-- the same by the place in the part, by what the layers after have
+pub layers-at : (f b n at rests : ℕ) (bs : List ℕ) (d : Decoded) → 1 ≤ f → at + (n + n * b) ≤ length bs → rests ≡ sum (take n (drop at bs))
+    → decoded_layers (f - 1) b rests (drop (at + (n + n * b)) bs) ≡ d → decoded_layers f b n (drop at bs) ≡ layered b (take n (drop at bs)) (drop n (drop at bs)) d
+layers-at zero b n at rests bs d h l e later = absurd (not-suc-le-zero h)
+layers-at (suc f) b n at rests bs d h l e later =
     let q : suc f - 1 ≡ f = omega arith in
-    rw (layers-step f b n (drop at bs) (simp length-drop (omega arith)), drop-drop (n + n * b) at bs, p, q, e)
+    rw (layers-step f b n (drop at bs) (simp length-drop (omega arith)), drop-drop (n + n * b) at bs, ← e) (rw (← (rw q at later)))
 
 -- where no layer may follow there are no values
 none_told : (b n : ℕ) (bs vs : List ℕ) → decoded_layers 0 b n bs ≡ all vs → (n ≡ 0) × (vs ≡ [])
@@ -197,10 +196,10 @@ decoded-fetched code n bytes vs e = go (kind_of code) (kind-known code) e
 
 -- ---- what an answer says
 
-pub says-no : (d : Decoded) {r : Bool} (now : List ℕ) → r ≡ false → Says d r now → d ≡ undecoded
-says-no (all vs) now e s = absurd (true≢false (sym s.0 ∙ e))
-says-no undecoded now e s = refl
+pub says-none : (d : Decoded) (now : List ℕ) → Says d None now → d ≡ undecoded
+says-none (all vs) now s = cc
+says-none undecoded now s = refl
 
-pub says-yes : (d : Decoded) {r : Bool} (now : List ℕ) → r ≡ true → Says d r now → d ≡ all now
-says-yes (all vs) now e s = ap all (sym s.1)
-says-yes undecoded now e s = absurd (true≢false (sym e ∙ s))
+pub says-some : (d : Decoded) {u : Unit} (now : List ℕ) → Says d (Some u) now → d ≡ all now
+says-some (all vs) now s = ap all (sym s.1)
+says-some undecoded now s = cc

@@ -1,9 +1,9 @@
 -- One layer of the chunked code as it is written: its continuation bits, its chunks, and what is left of the values after it.
 use Rattle.std.proofs.Common.{◌≡◌, ℕ, ◌+◌, ◌*◌, ◌/◌, ◌%◌, ◌^◌, ◌<◌, ◌≤◌, Bool, true, false, cond, eqb, List, [], ◌∷◌, ◌++◌, map, length, get_or, take, drop, set, sym, refl, append_assoc, append-nil, le_trans, le_refl, add-zero, mul-le-mul_left, div-mul-le_self, add-one, arith, length-append, length-take-le, take-suc, take-suc-set, take-add, pow_mono}
-use mathlib.Core.List.{map-append}
 use lib.ListN.{length-map}
 use lib.Seq.{take-set-le}
 use borrow.Author.Tests.{eqb-false}
+use Rattle.std.proofs.lemmas.List.{map_more}
 use Rattle.codes.specs.Bits.{bits, number, sum, fixed}
 use Rattle.codes.specs.Codes.{continuation, rest, chunked, Within}
 use Rattle.codes.proofs.Bits.{length-bits, length-fixed, number_append, number-bits, fixed-append}
@@ -11,21 +11,11 @@ use Rattle.codes.proofs.Layers.{rest-append, chunked-step}
 
 -- ---- continuation bits
 
--- those of the first i values
-abbrev pub continuations : ℕ → List ℕ → ℕ → List ℕ
-continuations b vs i = map (continuation b) (take i vs)
-
-pub length-continuations : (b : ℕ) (vs : List ℕ) (i : ℕ) → i ≤ length vs → length (continuations b vs i) ≡ i
-length-continuations b vs i h = rw (length-map (take i vs) (continuation b), length-take-le i vs h)
-
-pub continuations-add : (b : ℕ) (vs : List ℕ) (i k : ℕ) → continuations b vs (i + k) ≡ continuations b vs i ++ continuations b (drop i vs) k
-continuations-add b vs i k = rw (take-add i k vs) (map-append (continuation b) (take i vs) (take k (drop i vs)))
-
 -- one bit more
-pub number-continuations-suc : (b : ℕ) (vs : List ℕ) (i : ℕ) → i < length vs → number (continuations b vs i) * 2 + continuation b (get_or vs i 0) ≡ number (continuations b vs (i + 1))
+pub number-continuations-suc : (b : ℕ) (vs : List ℕ) (i : ℕ) → i < length vs
+    → number (map (continuation b) (take i vs)) * 2 + continuation b (get_or vs i 0) ≡ number (map (continuation b) (take (i + 1) vs))
 unfolding number
-number-continuations-suc b vs i h =
-    rw (add-one i, take-suc vs i 0 h, map-append (continuation b) (take i vs) (get_or vs i 0 ∷ []), number_append (continuations b vs i) (continuation b (get_or vs i 0) ∷ [])) (omega arith)
+number-continuations-suc b vs i h = rw (map_more (continuation b) vs i 0 h, number_append (map (continuation b) (take i vs)) (continuation b (get_or vs i 0) ∷ [])) (omega arith)
 
 -- ---- chunks
 
@@ -82,12 +72,9 @@ rest_sum b (v ∷ vs) h = go (eqb (v / 2 ^ b) 0) refl (rest_sum b vs h)
 
 -- ---- the layers
 
--- the whole code has room for the first layer of the m values that are left
-pub layer-room : (b m : ℕ) (vs bs total : List ℕ) → 1 ≤ b → m ≤ length vs → Within 32 (take m vs) → bs ++ chunked b (take m vs) ≡ total
-    → length bs + (m + m * b) ≤ length total
-layer-room b m vs bs total hb l h e =
-    rw (← e, chunked-step b (take m vs) hb h)
-    (simp (length-append, length-map, length-fixed, length-take-le m vs l) (omega arith))
+-- the whole code has room for the first layer of the values that are left
+pub layer-room : (b : ℕ) (vs bs total : List ℕ) → 1 ≤ b → Within 32 vs → bs ++ chunked b vs ≡ total → length bs + (length vs + length vs * b) ≤ length total
+layer-room b vs bs total hb h e = rw (← e, chunked-step b vs hb h) (simp (length-append, length-map, length-fixed) (omega arith))
 
 -- and with that layer written, the code of what is left remains
 pub layer-next : (b : ℕ) (vs r bs total : List ℕ) → 1 ≤ b → Within 32 vs → bs ++ chunked b vs ≡ total → r ≡ rest b vs

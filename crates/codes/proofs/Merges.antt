@@ -1,13 +1,14 @@
 -- A layer merged with the layers after it, from the last value to the first, and values that leave room for more bits.
-use Rattle.std.proofs.Common.{◌≡◌, ℕ, zero, suc, ◌+◌, ◌-◌, ◌*◌, ◌^◌, ◌<◌, ◌≤◌, Bool, true, false, ◌&&◌, eqb, ltb, List, [], ◌∷◌, length, get_or, take, drop, set, sym, refl, ap, ◌∙◌, le_of_suc-le-suc, not-suc-le-zero, zero-mul, arith, length-take-le, get_or-drop, get_or-set_other, get_or-take, get_or-set_same, drop-drop, ext_get_or, ltb-true, lt-ltb, eqb-true}
+use Rattle.std.proofs.Common.{◌≡◌, ℕ, zero, suc, ◌+◌, ◌-◌, ◌*◌, ◌^◌, ◌<◌, ◌≤◌, Bool, true, false, ◌&&◌, eqb, ltb, List, [], ◌∷◌, length, get_or, take, drop, set, sym, refl, ap, ◌∙◌, le_of_suc-le-suc, not-suc-le-zero, zero-mul, arith, length-drop, length-take-le, get_or-drop, get_or-set_other, get_or-take, get_or-set_same, drop-drop, ext_get_or, ltb-true, eqb-true}
 use mathlib.Core.Bool.{and-eq-true_iff}
+use Rattle.std.proofs.lemmas.List.Recursion.{and_at}
 use lib.Seq.{take-length}
 use borrow.Author.Tests.{eqb-false}
-use Rattle.codes.specs.Bits.{number, sum}
+use Rattle.codes.specs.Bits.{number, sum, bits_of}
 use Rattle.codes.specs.Codes.{Within}
 use Rattle.codes.specs.Decode.{merged, from_one}
-use Rattle.codes.specs.Merging.{Merging, Small}
-use Rattle.codes.proofs.Bits.{sum-take-suc, sum-le}
+use Rattle.codes.specs.Merging.{Merging, Small, continuations_at}
+use Rattle.codes.proofs.Bits.{length-fixed, sum-take-suc, sum-le}
 
 -- ---- a layer
 
@@ -27,6 +28,9 @@ merged-at b (m ∷ ms) bs rests (suc j) h =
     rw (e, ← (drop-drop (j * b) b bs)) (rw get_or-drop at (merged-at b ms (drop b bs) (drop m rests) j (le_of_suc-le-suc h)))
 
 -- ---- the merge, from the last value to the first
+
+pub length-continuations : (bytes : List ℕ) (at n : ℕ) → at + n ≤ length bytes * 8 → length (continuations_at bytes at n) ≡ n
+length-continuations bytes at n h = length-take-le n (drop at (bits_of bytes)) (simp (length-drop, length-fixed) (omega arith))
 
 pub merging-first : (b : ℕ) (ms bs vs : List ℕ) (rests : ℕ) → rests ≡ sum ms → Merging b ms bs (take rests vs) vs (length ms) rests
 merging-first b ms bs vs rests e =
@@ -70,27 +74,14 @@ merging-next b ms bs rests vs i kept x w h l xe was =
         (xe ∙ turn ∙ ap (λ (y : ℕ). c + y) (above m (w i) s.1))
     there q k n false e = get_or-set_other vs i q x 0 (eqb-false q i e) ∙ was.done q (omega (arith, eqb-false q i e)) n
 
-pub merging-last : (b : ℕ) (ms bs rests vs : List ℕ) (kept n : ℕ) → length ms ≡ n → n ≤ length vs → Merging b ms bs rests vs 0 kept → take n vs ≡ merged b ms bs rests
-merging-last b ms bs rests vs kept n e l was =
-    let lt = length-take-le n vs l in
-    ext_get_or 0 (take n vs) (merged b ms bs rests) (lt ∙ sym (length_merged b ms bs rests ∙ e)) (λ q h.
-    get_or-take n vs q 0 (rw lt at h) ∙ was.done q (omega arith) (rw e (rw lt at h)))
+pub merging-last : (b : ℕ) (ms bs rests vs : List ℕ) (kept : ℕ) → length ms ≡ length vs → Merging b ms bs rests vs 0 kept → vs ≡ merged b ms bs rests
+merging-last b ms bs rests vs kept e was =
+    ext_get_or 0 vs (merged b ms bs rests) (sym e ∙ sym (length_merged b ms bs rests)) (λ q h. was.done q (omega arith) (omega arith))
 
 -- ---- values that leave room
 
--- what the test says of one value
-abbrev pub FromOne : ℕ → ℕ → Type 0
-FromOne limit v = (1 ≤ v) × (v < limit)
-
-pub from-one-all : (limit : ℕ) (vs : List ℕ) → ((q : ℕ) → q < length vs → FromOne limit (get_or vs q 0)) → from_one limit vs ≡ true
-from-one-all limit [] h = refl
-from-one-all limit (v ∷ vs) h =
-    let k = h 0 (omega arith) in
-    rw (lt-ltb 0 v k.0, lt-ltb v limit k.1) (from-one-all limit vs (λ q k. h (suc q) (omega arith)))
-
-pub from-one-at : (limit : ℕ) (vs : List ℕ) → from_one limit vs ≡ true → (q : ℕ) → q < length vs → FromOne limit (get_or vs q 0)
-from-one-at limit [] h q k = absurd (not-suc-le-zero k)
-from-one-at limit (v ∷ vs) h zero k =
-    let t = (and-eq-true_iff (ltb 0 v) (ltb v limit)).0 ((and-eq-true_iff (ltb 0 v && ltb v limit) (from_one limit vs)).0 h).0 in
-    (ltb-true 0 v t.0, ltb-true v limit t.1)
-from-one-at limit (v ∷ vs) h (suc q) k = from-one-at limit vs ((and-eq-true_iff (ltb 0 v && ltb v limit) (from_one limit vs)).0 h).1 q (le_of_suc-le-suc k)
+pub from-one-at : (limit : ℕ) (vs : List ℕ) → from_one limit vs ≡ true → (q : ℕ) → q < length vs → (1 ≤ get_or vs q 0) × (get_or vs q 0 < limit)
+from-one-at limit vs h q k =
+    let t = and_at (from_one limit) (λ v. ltb 0 v && ltb v limit) refl (λ _ _. refl) vs q 0 k h in
+    let b = (and-eq-true_iff (ltb 0 (get_or vs q 0)) (ltb (get_or vs q 0) limit)).0 t in
+    (ltb-true 0 (get_or vs q 0) b.0, ltb-true (get_or vs q 0) limit b.1)

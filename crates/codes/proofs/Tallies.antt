@@ -1,14 +1,17 @@
 -- How many values have how many zero bits above their highest one bit, and how many have more bits than a width.
-use Rattle.std.proofs.Common.{◌≡◌, ℕ, zero, suc, ◌+◌, ◌-◌, ◌*◌, ◌/◌, ◌^◌, ◌<◌, ◌≤◌, Bool, true, false, cond, eqb, ltb, List, [], ◌∷◌, ◌++◌, length, get_or, take, drop, set, sym, refl, ap, ◌∙◌, le_trans, lt_of_not-le, add-one, arith, length-drop, take-append-drop, length-take, get_or-drop, get_or-set_other, take-suc, get_or-set_same, drop-drop, pow_pos, shr-shr, ltb-false, ltb-true, eq-eqb, eqb-true}
+use Rattle.std.proofs.Common.{◌≡◌, ℕ, zero, suc, ◌+◌, ◌-◌, ◌*◌, ◌/◌, ◌^◌, ◌<◌, ◌≤◌, Bool, true, false, cond, eqb, ltb, List, [], ◌∷◌, ◌++◌, length, get_or, take, drop, set, sym, refl, ap, ◌∙◌, le_trans, add-one, arith, length-drop, take-append-drop, length-take, get_or-set_other, take-suc, get_or-set_same, drop-drop, pow_pos, shr-shr, ltb-false, ltb-true, eq-eqb, ne_eqb, eqb-true, not, Some, None, unwrap_or, zero-mul, take-add, length-take-le}
 use native.Mathlib.Nat.{zero-div}
 use lib.ListN.{get_or-eq_default}
-use lib.Seq.{drop-length}
 use borrow.Author.Tests.{eqb-false}
+use Rattle.std.specs.List.{position, position_or_len}
+use Rattle.std.proofs.lemmas.List.Sums.{prefix_len_is}
+use Rattle.std.specs.Simd.{first_chunks}
+use Rattle.codes.specs.declared.measuring.Counts.{Counts}
 use Rattle.codes.specs.Codes.{rest, Within}
 use Rattle.codes.specs.Choice.{width, widest}
 use Rattle.codes.specs.Measure.{tally, counted, Tallied, Measured}
-use Rattle.codes.proofs.Layers.{within_more, rest-none}
-use Rattle.codes.proofs.Widths.{width-zeros, shr-none, width-ends, width-goes, widest-holds}
+use Rattle.codes.proofs.Layers.{rest-none}
+use Rattle.codes.proofs.Widths.{width-zeros, shr-none, width-ends, width-goes, widest-holds, widest-least, widest-le}
 
 -- ---- those with more than t bits
 
@@ -22,10 +25,6 @@ none_within t (v ∷ vs) e j = go (eqb (v / 2 ^ t) 0) refl (none_within t vs) e 
     go true p ih e zero = shr-none t v (eqb-true (v / 2 ^ t) 0 p)
     go true p ih e (suc j) = ih e j
     go false p ih e j = absurd (omega arith)
-
--- a width that does not hold every value is below the widest
-pub rest_some : (t : ℕ) (vs : List ℕ) → Within 32 vs → (length (rest t vs) ≡ 0 → ⊥) → t < widest vs
-rest_some t vs h n = lt_of_not-le (λ k. n (ap length (rest-none t vs (within_more (widest vs) t vs k (widest-holds vs h)))))
 
 length_rest : (t : ℕ) (vs : List ℕ) → length (rest t vs) ≤ length vs
 unfolding rest
@@ -50,25 +49,24 @@ rest-rest s b (v ∷ vs) = go (eqb (v / 2 ^ s) 0) refl (rest-rest s b vs)
 
 -- ---- those with z zero bits above their highest one bit
 
--- those with more than t - 1 bits have more than t, or 32 - t zero bits
-rest-tally : (t : ℕ) (vs : List ℕ) → 0 < t → t ≤ 32 → Within 32 vs → length (rest (t - 1) vs) ≡ length (rest t vs) + tally (32 - t) vs
+-- those with more than t bits have more than t + 1, or 31 - t zero bits
+rest-tally : (t : ℕ) (vs : List ℕ) → t < 32 → Within 32 vs → length (rest t vs) ≡ length (rest (t + 1) vs) + tally (31 - t) vs
 unfolding rest tally
-rest-tally t [] l m h = refl
-rest-tally t (v ∷ vs) l m h = go (eqb (v / 2 ^ (t - 1)) 0) (eqb (v / 2 ^ t) 0) (eqb (32 - width v) (32 - t)) refl refl refl (rest-tally t vs l m (λ j. h (suc j)))
+rest-tally t [] m h = refl
+rest-tally t (v ∷ vs) m h = go (eqb (v / 2 ^ t) 0) (eqb (v / 2 ^ (t + 1)) 0) (eqb (32 - width v) (31 - t)) refl refl refl (rest-tally t vs m (λ j. h (suc j)))
   where
     most : width v ≤ 32
     most = omega (arith, width-zeros 32 v)
 
-    go : (p q r : Bool) → eqb (v / 2 ^ (t - 1)) 0 ≡ p → eqb (v / 2 ^ t) 0 ≡ q → eqb (32 - width v) (32 - t) ≡ r → length (rest (t - 1) vs) ≡ length (rest t vs) + tally (32 - t) vs
-        → length (cond p (rest (t - 1) vs) (v / 2 ^ (t - 1) ∷ rest (t - 1) vs)) ≡ length (cond q (rest t vs) (v / 2 ^ t ∷ rest t vs)) + (cond r 1 0 + tally (32 - t) vs)
-    go true q true a b c ih = omega (arith, most, width-ends 32 (t - 1) v (eqb-true (v / 2 ^ (t - 1)) 0 a), eqb-true (32 - width v) (32 - t) c)
+    go : (p q r : Bool) → eqb (v / 2 ^ t) 0 ≡ p → eqb (v / 2 ^ (t + 1)) 0 ≡ q → eqb (32 - width v) (31 - t) ≡ r → length (rest t vs) ≡ length (rest (t + 1) vs) + tally (31 - t) vs
+        → length (cond p (rest t vs) (v / 2 ^ t ∷ rest t vs)) ≡ length (cond q (rest (t + 1) vs) (v / 2 ^ (t + 1) ∷ rest (t + 1) vs)) + (cond r 1 0 + tally (31 - t) vs)
+    go true q true a b c ih = omega (arith, most, width-ends 32 t v (eqb-true (v / 2 ^ t) 0 a), eqb-true (32 - width v) (31 - t) c)
     go true true false a b c ih = omega arith
-    go true false false a b c ih =
-        omega (arith, width-ends 32 (t - 1) v (eqb-true (v / 2 ^ (t - 1)) 0 a), width-goes 32 t v (h 0) (eqb-false (v / 2 ^ t) 0 b))
+    go true false false a b c ih = omega (arith, width-ends 32 t v (eqb-true (v / 2 ^ t) 0 a), width-goes 32 (t + 1) v (h 0) (eqb-false (v / 2 ^ (t + 1)) 0 b))
     go false true true a b c ih = omega arith
     go false true false a b c ih =
-        omega (arith, width-goes 32 (t - 1) v (h 0) (eqb-false (v / 2 ^ (t - 1)) 0 a), width-ends 32 t v (eqb-true (v / 2 ^ t) 0 b), eqb-false (32 - width v) (32 - t) c)
-    go false false true a b c ih = omega (arith, most, width-goes 32 t v (h 0) (eqb-false (v / 2 ^ t) 0 b), eqb-true (32 - width v) (32 - t) c)
+        omega (arith, width-goes 32 t v (h 0) (eqb-false (v / 2 ^ t) 0 a), width-ends 32 (t + 1) v (eqb-true (v / 2 ^ (t + 1)) 0 b), eqb-false (32 - width v) (31 - t) c)
+    go false false true a b c ih = omega (arith, most, width-goes 32 (t + 1) v (h 0) (eqb-false (v / 2 ^ (t + 1)) 0 b), eqb-true (32 - width v) (31 - t) c)
     go false false false a b c ih = omega arith
 
 pub tally-le : (z : ℕ) (vs : List ℕ) → tally z vs ≤ length vs
@@ -92,10 +90,6 @@ tally-append z (x ∷ xs) ys = omega (arith, tally-append z xs ys)
 pub tally-next : (z : ℕ) (vs : List ℕ) (i : ℕ) → i < length vs → tally z (take (i + 1) vs) ≡ tally z (take i vs) + tally z (get_or vs i 0 ∷ [])
 tally-next z vs i h = rw (add-one i, take-suc vs i 0 h) (tally-append z (take i vs) (get_or vs i 0 ∷ []))
 
-pub tally-after : (z : ℕ) (vs : List ℕ) (a i : ℕ) → a + i < length vs
-    → tally z (take (i + 1) (drop a vs)) ≡ tally z (take i (drop a vs)) + tally z (get_or vs (a + i) 0 ∷ [])
-tally-after z vs a i h = rw (← (get_or-drop a vs i 0)) (tally-next z (drop a vs) i (simp length-drop (omega arith)))
-
 -- which is counted where its zeros say
 pub counted-more : (counts : List ℕ) (v k z : ℕ) → k < length counts → k ≡ 32 - width v → get_or (set counts k (get_or counts k 0 + 1)) z 0 ≡ get_or counts z 0 + tally z (v ∷ [])
 unfolding tally
@@ -105,44 +99,78 @@ counted-more counts v k z h e = rw (← e) (go (eqb k z) refl)
     go true p = rw (← (eqb-true k z p)) (get_or-set_same counts k (get_or counts k 0 + 1) 0 h)
     go false p = rw (get_or-set_other counts k z (get_or counts k 0 + 1) 0 (λ q. eqb-false k z p (sym q))) (omega arith)
 
--- q values from value a on, and those after them
-tally-part : (z : ℕ) (vs : List ℕ) (a q b : ℕ) → a + q ≡ b → tally z (drop a vs) ≡ tally z (take q (drop a vs)) + tally z (drop b vs)
-tally-part z vs a q b e = rw (← e, ← (drop-drop q a vs)) (ap (tally z) (sym (take-append-drop q (drop a vs))) ∙ tally-append z (take q (drop a vs)) (drop q (drop a vs)))
-
--- the first a values, and four quarters
-pub tally-quarters : (z : ℕ) (vs : List ℕ) (a q : ℕ) → a + q * 4 ≡ length vs
-    → tally z vs ≡ tally z (take a vs) + tally z (take q (drop a vs)) + tally z (take q (drop (a + q) vs)) + tally z (take q (drop (a + q * 2) vs)) + tally z (take q (drop (a + q * 3) vs))
+-- four values more
+tally-four : (z : ℕ) (four : List ℕ) → length four ≡ 4
+    → tally z four ≡ tally z (get_or four 0 0 ∷ []) + tally z (get_or four 1 0 ∷ []) + tally z (get_or four 2 0 ∷ []) + tally z (get_or four 3 0 ∷ [])
 unfolding tally
-tally-quarters z vs a q e =
-    let none : tally z (drop (a + q * 4) vs) ≡ 0 = rw (e, drop-length vs) in
-    omega (
-      arith,
-      none,
-      ap (tally z) (sym (take-append-drop a vs)) ∙ tally-append z (take a vs) (drop a vs),
-      tally-part z vs a q (a + q) refl,
-      tally-part z vs (a + q) q (a + q * 2) (omega arith),
-      tally-part z vs (a + q * 2) q (a + q * 3) (omega arith),
-      tally-part z vs (a + q * 3) q (a + q * 4) (omega arith),
-    )
+tally-four z [] e = absurd (omega arith)
+tally-four z (v ∷ []) e = absurd (omega arith)
+tally-four z (v ∷ w ∷ []) e = absurd (omega arith)
+tally-four z (v ∷ w ∷ x ∷ []) e = absurd (omega arith)
+tally-four z (v ∷ w ∷ x ∷ y ∷ []) e = omega arith
+tally-four z (v ∷ w ∷ x ∷ y ∷ u ∷ vs) e = absurd (omega arith)
+
+-- chunk i of k
+chunk : (n k i : ℕ) (vs : List ℕ) → i < k → get_or (first_chunks n k vs) i [] ≡ take n (drop (i * n) vs)
+chunk n zero i vs h = absurd (omega arith)
+chunk n (suc k) zero vs h = rw (zero-mul n)
+chunk n (suc k) (suc i) vs h =
+    let e : suc i * n ≡ n + i * n = omega arith in
+    rw (e, ← (drop-drop (i * n) n vs)) (chunk n k i (drop n vs) (omega arith))
+
+pub tally-chunk : (z : ℕ) (vs four : List ℕ) (k i : ℕ) → i < k → k * 4 ≤ length vs → four ≡ get_or (first_chunks 4 k vs) i []
+    → tally z (take ((i + 1) * 4) vs) ≡ tally z (take (i * 4) vs)
+    + (tally z (get_or four 0 0 ∷ []) + tally z (get_or four 1 0 ∷ []) + tally z (get_or four 2 0 ∷ []) + tally z (get_or four 3 0 ∷ []))
+tally-chunk z vs four k i h l f =
+    let e : (i + 1) * 4 ≡ i * 4 + 4 = omega arith in
+    let here : four ≡ take 4 (drop (i * 4) vs) = f ∙ chunk 4 k i vs h in
+    let n : length four ≡ 4 = rw here (length-take-le 4 (drop (i * 4) vs) (simp length-drop (omega arith))) in
+    rw (← (tally-four z four n), e, take-add (i * 4) 4 vs, here) (tally-append z (take (i * 4) vs) (take 4 (drop (i * 4) vs)))
+
+pub tally-apart : (z n : ℕ) (vs : List ℕ) → tally z vs ≡ tally z (take n vs) + tally z (drop n vs)
+tally-apart z n vs = ap (tally z) (sym (take-append-drop n vs)) ∙ tally-append z (take n vs) (drop n vs)
 
 -- ---- the counts in an array
 
 -- one entry more, from the one above it
-pub measured-more : (over vs first second third fourth : List ℕ) (t : ℕ) → 0 < t → t ≤ 32 → length over ≡ 33 → Tallied vs first second third fourth
-    → ((u : ℕ) → t ≤ u → u ≤ 32 → get_or over u 0 ≡ length (rest u vs))
-    → (u : ℕ) → t - 1 ≤ u → u ≤ 32 → get_or (set over (t - 1) (get_or over t 0 + counted first second third fourth (32 - t))) u 0 ≡ length (rest u vs)
-measured-more over vs first second third fourth t l k n h e u m j = go (eqb u (t - 1)) refl
+pub measured-more : (over vs : List ℕ) (counts : Counts) (t : ℕ) → t < 32 → length over ≡ 33 → Tallied vs counts
+    → ((u : ℕ) → t < u → u ≤ 32 → get_or over u 0 ≡ length (rest u vs))
+    → (u : ℕ) → t ≤ u → u ≤ 32 → get_or (set over t (get_or over (t + 1) 0 + counted counts (31 - t))) u 0 ≡ length (rest u vs)
+measured-more over vs counts t k n h e u m j = go (eqb u t) refl
   where
     x : ℕ
-    x = get_or over t 0 + counted first second third fourth (32 - t)
+    x = get_or over (t + 1) 0 + counted counts (31 - t)
 
-    go : (s : Bool) → eqb u (t - 1) ≡ s → get_or (set over (t - 1) x) u 0 ≡ length (rest u vs)
+    go : (s : Bool) → eqb u t ≡ s → get_or (set over t x) u 0 ≡ length (rest u vs)
     go true p =
-        rw (eqb-true u (t - 1) p, get_or-set_same over (t - 1) x 0 (omega arith))
-        (omega (arith, e t (omega arith) k, h.each (32 - t), rest-tally t vs l k h.within))
+        rw (eqb-true u t p, get_or-set_same over t x 0 (omega arith))
+        (omega (arith, e (t + 1) (omega arith) (omega arith), h.each (31 - t), rest-tally t vs k h.within))
     go false p =
-        let q = eqb-false u (t - 1) p in
-        rw (get_or-set_other over (t - 1) u x 0 q) (e u (omega arith) j)
+        let q = eqb-false u t p in
+        rw (get_or-set_other over t u x 0 q) (e u (omega arith) j)
+
+-- the least width that no value is above is the first with 0
+first-none : (vs over : List ℕ) → length over ≡ 33 → Measured vs over → position_or_len (λ n. eqb n 0) over ≡ widest vs
+first-none vs over e h = prefix_len_is (λ n. not (eqb n 0)) over (widest vs) 0 (omega (arith, widest-le vs)) below there
+  where
+    below : (k : ℕ) → k < widest vs → not (eqb (get_or over k 0) 0) ≡ true
+    below k l =
+        let some : get_or over k 0 ≡ 0 → ⊥ = λ z. absurd (omega (arith, l, widest-least vs k (none_within k vs (sym (h.each k (omega (arith, l, widest-le vs))) ∙ z)))) in
+        rw (ne_eqb (get_or over k 0) 0 some)
+
+    there : widest vs < length over → not (eqb (get_or over (widest vs) 0) 0) ≡ false
+    there l = rw (eq-eqb (get_or over (widest vs) 0) 0 (h.each (widest vs) (widest-le vs) ∙ ap length (rest-none (widest vs) vs (widest-holds vs h.within))))
+
+pub first-width : (over : List ℕ) → length over ≡ 33
+    → let w = unwrap_or (position (λ n. eqb n 0) over) 32 in (w ≤ 32) × ((vs : List ℕ) → Measured vs over → w ≡ widest vs)
+first-width over e = go (ltb w (length over)) refl
+  where
+    w : ℕ
+    w = position_or_len (λ n. eqb n 0) over
+
+    go : (s : Bool) → ltb w (length over) ≡ s → (unwrap_or (cond s (Some w) None) 32 ≤ 32) × ((vs : List ℕ) → Measured vs over → unwrap_or (cond s (Some w) None) 32 ≡ widest vs)
+    go true p = (omega (arith, ltb-true w (length over) p), λ vs h. first-none vs over e h)
+    go false p = (omega arith, λ vs h. absurd (omega (arith, ltb-false w (length over) p, first-none vs over e h, widest-le vs)))
 
 pub measured-le : (vs over : List ℕ) → length over ≡ 33 → Measured vs over → (t : ℕ) → get_or over t 0 ≤ length vs
 measured-le vs over n h t = go (ltb t 33) refl

@@ -1,5 +1,5 @@
 -- Bits of a part, read by bytes and counted by words.
-use Rattle.std.proofs.Common.{◌≡◌, ℕ, zero, suc, ◌+◌, ◌-◌, ◌*◌, ◌/◌, ◌%◌, ◌^◌, ◌<◌, ◌≤◌, List, [], ◌∷◌, length, get_or, take, drop, sym, refl, ◌∙◌, append-nil, one-mul, div-one, add-one, arith, length-drop, length-take-le, take_all, take-take, drop-drop, take-add, pow-add, shl_exact}
+use Rattle.std.proofs.Common.{◌≡◌, ℕ, zero, suc, ◌+◌, ◌-◌, ◌*◌, ◌/◌, ◌%◌, ◌^◌, ◌<◌, ◌≤◌, List, [], ◌∷◌, length, get_or, take, drop, sym, get_or-take, get_or-drop, refl, ◌∙◌, append-nil, one-mul, div-one, add-one, arith, length-drop, length-take-le, take_all, take-take, drop-drop, take-add, pow-add, shl_exact}
 use lib.Arith.{digits_lt}
 use lib.Count.{ones, ones_cat}
 use lib.Pow.{low, high, field, mod-mod-pow}
@@ -35,6 +35,10 @@ number-next bytes i k h b =
     let e' : i * 8 + k * 8 ≡ (i + k) * 8 = omega arith in
     rw (e, number_more bytes (i * 8) (k * 8) 8 (omega arith), e', number-byte bytes (i + k) h b)
 
+-- entry j of the n from entry i on
+pub entry-there : (bytes part : List ℕ) (n i j : ℕ) → part ≡ take n (drop i bytes) → j < n → get_or part j 0 ≡ get_or bytes (i + j) 0
+entry-there bytes part n i j e h = rw (e, get_or-take n (drop i bytes) j 0 h, get_or-drop i bytes j 0)
+
 -- the number that k bytes spell
 abbrev spelled : ℕ → List ℕ → ℕ → ℕ
 spelled zero bytes i = 0
@@ -58,28 +62,20 @@ last-number bytes at j w h =
     let l = part-lt bytes (at + j * w) w in
     rw (e, number_more bytes at (j * w) w h) (low (number (take (j * w) (from bytes at))) w l, high (number (take (j * w) (from bytes at))) w l)
 
--- the last two numbers of w bits that x has
-pub last-two : (bytes : List ℕ) (at w x : ℕ) → at + 2 * w ≤ length bytes * 8 → x % 2 ^ (2 * w) ≡ number (take (2 * w) (from bytes at))
-    → (x / 2 ^ w % 2 ^ w ≡ number (take w (from bytes at))) × (x % 2 ^ w ≡ number (take w (from bytes (at + w))))
-last-two bytes at w x h e =
-    let d : 2 * w ≡ w + w = omega arith in
-    let one : 1 * w ≡ w = omega arith in
-    let l = rw one at (last-number bytes at 1 w (omega arith)) in
-    let y = rw d at e in
-    (sym (field x w w) ∙ rw (y, ← d) l.1, sym (mod-mod-pow x w w) ∙ rw (y, ← d) l.0)
-
--- of the last four the first two and the last two
-pub last-four : (bytes : List ℕ) (at w x : ℕ) → at + 4 * w ≤ length bytes * 8 → x % 2 ^ (4 * w) ≡ number (take (4 * w) (from bytes at))
-    → (x / 2 ^ (2 * w) % 2 ^ (2 * w) ≡ number (take (2 * w) (from bytes at))) × (x % 2 ^ (2 * w) ≡ number (take (2 * w) (from bytes (at + 2 * w))))
-last-four bytes at w x h e =
-    let d : 4 * w ≡ 2 * (2 * w) = omega arith in
-    last-two bytes at (2 * w) x (omega arith) (rw d at e)
-
 take-drop-take : (w s m : ℕ) (l : List ℕ) → s + w ≤ m → take w (drop s (take m l)) ≡ take w (drop s l)
 take-drop-take w zero m l h = take-take w m l (omega arith)
 take-drop-take w (suc s) zero l h = absurd (omega arith)
 take-drop-take w (suc s) (suc m) [] h = refl
 take-drop-take w (suc s) (suc m) (x ∷ l) h = take-drop-take w s m l (omega arith)
+
+-- w bits from bit `at + p` on, of which x has the r after them too, and as many before them as from bit `at` on
+pub bits-within : (bytes : List ℕ) (at p w r x : ℕ) → at + p + w + r ≤ length bytes * 8 → x % 2 ^ (p + w + r) ≡ number (take (p + w + r) (from bytes at))
+    → x / 2 ^ r % 2 ^ w ≡ number (take w (from bytes (at + p)))
+bits-within bytes at p w r x h e =
+    let d = from bytes at in
+    let len : length (take (p + w + r) d) ≡ p + w + r = length-take-le (p + w + r) d (simp (length-drop, length-fixed) (omega arith)) in
+    let there = number-part (take (p + w + r) d) p w r (within-take 1 (p + w + r) d (bits-from bytes at)) (sym len) in
+    rw (← (drop-drop p at (bits_of bytes)), ← (take-drop-take w p (p + w + r) d (omega arith)), there, ← e, field x (p + w) r) (sym (mod-mod-pow (x / 2 ^ r) p w))
 
 -- w bits from bit `at` on, in the n bytes from byte `first` on, where r bits follow them
 pub read-part : (bytes : List ℕ) (at w first n r : ℕ) → first * 8 ≤ at → at + w + r ≡ (first + n) * 8 → first + n ≤ length bytes

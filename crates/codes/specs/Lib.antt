@@ -1,5 +1,5 @@
 -- What the level codes mean. A reader of the public contracts needs Lists, Bits, Codes, Choice, Fetch, Marks and Decode; Marked has
--- the marked parts, Promises what is shown besides the contracts. Measure, Written, Radix, Merging and Streams are cited by private functions
+-- the marked parts, Promises what is shown besides the contracts. Measure, Written, Merging and Streams are cited by private functions
 -- alone.
 pub mod Lists
 pub mod Bits
@@ -12,6 +12,5 @@ pub mod Marked
 pub mod Promises
 pub mod Measure
 pub mod Written
-pub mod Radix
 pub mod Merging
 pub mod Streams

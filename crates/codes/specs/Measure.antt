@@ -1,5 +1,6 @@
 -- What choose learns of the values.
 use Rattle.std.specs.Prelude.{◌≡◌, ℕ, ◌+◌, ◌-◌, ◌≤◌, cond, List, [], ◌∷◌, length, ◌==◌, slice_index}
+use Rattle.codes.specs.declared.measuring.Counts.{Counts}
 use Rattle.codes.specs.Codes.{rest, Within}
 use Rattle.codes.specs.Choice.{width}
 
@@ -9,11 +10,11 @@ tally z [] = 0
 tally z (v ∷ vs) = cond (32 - width v == z) 1 0 + tally z vs
 
 -- their count, in four parts
-abbrev pub counted : List ℕ → List ℕ → List ℕ → List ℕ → ℕ → ℕ
-counted first second third fourth z = slice_index first z + slice_index second z + (slice_index third z + slice_index fourth z)
+abbrev pub counted : Counts → ℕ → ℕ
+counted counts z = slice_index counts.first z + slice_index counts.second z + (slice_index counts.third z + slice_index counts.fourth z)
 
-pub record Tallied (vs first second third fourth : List ℕ) : Type 0 where
-  pub each : (z : ℕ) → counted first second third fourth z ≡ tally z vs
+pub record Tallied (vs : List ℕ) (counts : Counts) : Type 0 where
+  pub each : (z : ℕ) → counted counts z ≡ tally z vs
   pub within : Within 32 vs
 
 -- over[t] of the values have more than t bits

@@ -1,6 +1,6 @@
 -- What the functions that decode promise each other. The merge of a layer goes from the last value to the first, in the buffer where
 -- the values of the layers after stand at the front.
-use Rattle.std.specs.Prelude.{◌≡◌, ℕ, ◌+◌, ◌-◌, ◌*◌, ◌^◌, ◌<◌, ◌≤◌, Bool, true, false, List, length, take, drop, slice_index}
+use Rattle.std.specs.Prelude.{◌≡◌, ℕ, ◌+◌, ◌-◌, ◌*◌, ◌^◌, ◌<◌, ◌≤◌, Option, Some, None, List, length, take, drop, slice_index}
 use Rattle.codes.specs.Bits.{number, sum, bits_of}
 use Rattle.codes.specs.Decode.{Decoded, all, undecoded, merged}
 use Rattle.codes.specs.declared.decoding.Span.{Span}
@@ -42,35 +42,21 @@ Merges b bytes at n vs i kept vs' i' kept' =
 
 -- the k values from value `from` on of that layer are merged next, and `kept` of the rests are not used yet
 pub record LayerGroup (b : ℕ) (bytes vs : List ℕ) (at n from k kept : ℕ) : Type 0 where
-  pub some : 1 ≤ b
-  pub few : b ≤ 8
+  pub count : length vs ≡ n
   pub inside : from + k ≤ n
-  pub room : n ≤ length vs
   pub whole : at + n + n * b ≤ length bytes * 8
   pub ones : kept ≡ sum (take (from + k) (continuations_at bytes at n))
   pub small : Small b vs kept
 
--- their continuation bits in a word, one bit each, and their chunks
-abbrev pub continuation_word : List ℕ → ℕ → ℕ → ℕ → ℕ
-continuation_word bytes at from k = number (take (k * 1) (drop (at + from) (bits_of bytes)))
-
-abbrev pub chunk_word : ℕ → List ℕ → ℕ → ℕ → ℕ → ℕ → ℕ
-chunk_word b bytes at n from k = number (take (k * b) (drop (at + n + from * b) (bits_of bytes)))
-
 -- a group by its span is the one that is merged next
 abbrev pub GroupNext : ℕ → List ℕ → List ℕ → Span → ℕ → Type 0
-GroupNext b bytes vs g kept = LayerGroup b bytes vs g.at g.n g.from g.k kept
-
--- its continuation bits and its chunks are read, too
-abbrev pub GroupRead : ℕ → List ℕ → List ℕ → Span → ℕ → ℕ → ℕ → Type 0
-GroupRead b bytes vs g kept mores chunks =
-    GroupNext b bytes vs g kept × (mores ≡ continuation_word bytes g.at g.from g.k) × (chunks ≡ chunk_word b bytes g.at g.n g.from g.k)
+GroupNext b bytes vs g kept = LayerGroup b bytes vs g.at (length vs) g.from g.k kept
 
 -- and it has been merged
 abbrev pub GroupMerged : ℕ → List ℕ → Span → List ℕ → ℕ → List ℕ → ℕ → Type 0
-GroupMerged b bytes g vs kept vs' kept' = Merges b bytes g.at g.n vs (g.from + g.k) kept vs' g.from kept'
+GroupMerged b bytes g vs kept vs' kept' = Merges b bytes g.at (length vs) vs (g.from + g.k) kept vs' g.from kept'
 
 -- an answer and a buffer's content, by what decoding finds
-abbrev pub Says : Decoded → Bool → List ℕ → Type 0
-Says (all vs) r now = (r ≡ true) × (now ≡ vs)
-Says undecoded r now = r ≡ false
+abbrev pub Says : Decoded → Option Unit → List ℕ → Type 0
+Says (all vs) r now = (r ≡ Some tt) × (now ≡ vs)
+Says undecoded r now = r ≡ None

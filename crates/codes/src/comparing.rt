@@ -5,18 +5,17 @@ ghost use Rattle.codes.specs.Choice.{is_chosen};
 ghost use Rattle.codes.specs.Decode.{all, decoded};
 
 use super::choosing::choose;
-use super::reading::{byte, low_bits};
+use super::reading::low_bits;
 
 // Whether the bits after the first `size` are 0. They are the lowest of the last byte.
 fn zeros_after(part: &[u8], size: usize) -> bool
     requires { (length part.now ≡ bytes_for size) × (length part.now < 2 ^ 32) }
     ensures { result ≡ (number (drop size (bits_of part.now)) == 0) }
 {
-    let end = part.len();
-    if end == 0 {
-        return true;
+    match part.last() {
+        Some(&b) => low_bits(u64::from(b), part.len() * 8 - size) == 0,
+        None => true,
     }
-    low_bits(byte(part, end - 1), end * 8 - size) == 0
 }
 
 // Whether a part is what pack writes for its values: in the chosen code, padded with zero bits, with nothing after. The values are those
@@ -30,9 +29,8 @@ pub fn is_chosen(values: &[u32], part: &[u8], code: u8) -> bool
     if choice.code != code {
         return false;
     }
-    let size = choice.size;
-    if part.len() != (size + 7) / 8 {
+    if part.len() != choice.size.div_ceil(8) {
         return false;
     }
-    zeros_after(part, size)
+    zeros_after(part, choice.size)
 }

@@ -3,13 +3,13 @@ ghost use Rattle.std.specs.Prelude.{◌≡◌, ◌+◌, ◌-◌, ◌*◌, ◌%�
 ghost use Rattle.codes.specs.Bits.{sum, bits_of};
 ghost use Rattle.codes.specs.Streams.{in_streams};
 
-use super::reading::{byte, read};
+use super::reading::{bytes_at, read};
 
 // How many bits of a word are 1.
 fn ones_of(x: u64) -> usize
     ensures { (result ≤ 64) × (result ≡ count_ones x) }
 {
-    u64::count_ones(x) as usize
+    x.count_ones() as usize
 }
 
 // How many of the `w` bits from bit `at` on are 1.
@@ -24,23 +24,12 @@ fn ones_at(part: &[u8], at: usize, w: usize) -> usize
     ones_of(read(part, at, w))
 }
 
-// A number with the ones of the 4 bytes from byte `first` on. Their order is no matter for a count, and in this one they are one read.
-fn ones_half(part: &[u8], first: usize) -> u64
-    requires { first + 4 ≤ length part.now }
-    ensures { (result < 2 ^ 32) × (count_ones result ≡ sum (take 32 (drop (first * 8) (bits_of part.now)))) }
-{
-    byte(part, first)
-        + byte(part, first + 1) * 256
-        + byte(part, first + 2) * 65536
-        + byte(part, first + 3) * 16777216
-}
-
-// A word with the ones of the 8 bytes from byte `first` on. The compiler makes one read of both halves, too, but not of a sum of 8 bytes.
+// A word with the ones of the 8 bytes from byte `first` on. Their order is no matter for a count, and in this one they are a plain read.
 fn ones_word(part: &[u8], first: usize) -> u64
     requires { first + 8 ≤ length part.now }
     ensures { count_ones result ≡ sum (take 64 (drop (first * 8) (bits_of part.now))) }
 {
-    ones_half(part, first) + ones_half(part, first + 4) * 4294967296
+    u64::from_le_bytes(bytes_at(part, first))
 }
 
 // In each place the sum of three bits: its low bit in `ones`, its high bit in `twos`.
@@ -95,11 +84,9 @@ fn ones_in_streams(part: &[u8], first: usize, turns: usize) -> usize
     ensures { (result ≤ turns * 960) × (result ≡ sum (take (turns * 960) (drop (first * 8) (bits_of part.now)))) }
 {
     let step = turns * 8;
-    let mut count: usize = 0;
-    let mut i: usize = 0;
-    while i < turns {
+    let mut count = 0;
+    for i in 0..turns {
         count += ones_in_fifteen(part, first + i * 8, step);
-        i += 1;
     }
     count
 }
@@ -109,17 +96,16 @@ fn ones_in_few(part: &[u8], first: usize, words: usize) -> usize
     requires { (first + words * 8 ≤ length part.now) × (length part.now < 2 ^ 32) }
     ensures { (result ≤ words * 64) × (result ≡ sum (take (words * 64) (drop (first * 8) (bits_of part.now)))) }
 {
-    let mut count: usize = 0;
-    let mut i: usize = 0;
-    while i < words {
+    let mut count = 0;
+    for i in 0..words {
         count += ones_of(ones_word(part, first + i * 8));
-        i += 1;
     }
     count
 }
 
 // How many bits are 1 in the words from byte `first` on: of 30 and more, first those that the streams have in an even number of turns, since
 // a wide read has two turns' words, and then what is left.
+// The words are told by place and number: as slices of the part they take a sweep of chords, or a search, 1.06 times as long.
 fn ones_in_words(part: &[u8], first: usize, words: usize) -> usize
     requires { (first + words * 8 ≤ length part.now) × (length part.now < 2 ^ 32) }
     ensures { (result ≤ words * 64) × (result ≡ sum (take (words * 64) (drop (first * 8) (bits_of part.now)))) }

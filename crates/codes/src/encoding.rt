@@ -8,19 +8,16 @@ ghost use Rattle.codes.specs.Written.{Wrote};
 use super::kinds::{Kind, kind_of};
 use super::layering::put_layers;
 use super::reading::low_bits;
-use super::writing::{Writer, finish, put, wide_value};
+use super::writing::Writer;
 
 // Writes each value in `w` bits.
 fn put_fixed(out: &mut [u8], writer: Writer, w: usize, values: &[u32]) -> Writer
-    requires w_bound { (w ≤ 32) × (writer.have < 32) }
-    requires w_in_bounds { writer.at * 8 + writer.have + length values.now * w ≤ length out.old * 8 }
-    ensures { Wrote out.old writer out.new result (fixed w values.now) × (result.have < 32) }
+    requires { (w ≤ 32) × (writer.at * 8 + writer.have + length values.now * w ≤ length out.old * 8) }
+    ensures { Wrote out.old writer out.new result (fixed w values.now) }
 {
     let mut p = writer;
-    let mut i: usize = 0;
-    while i < values.len() {
-        p = put(out, p, w, low_bits(wide_value(values[i]), w));
-        i += 1;
+    for &v in values {
+        p = p.put(out, w, low_bits(u64::from(v), w));
     }
     p
 }
@@ -30,11 +27,7 @@ pub fn copy_values(work: &mut [u32], values: &[u32])
     requires { length values.now ≤ length work.old }
     ensures { work.new ≡ at_front values.now work.old }
 {
-    let mut i: usize = 0;
-    while i < values.len() {
-        work[i] = values[i];
-        i += 1;
-    }
+    work[..values.len()].copy_from_slice(values);
 }
 
 // Makes the first `n` values 0.
@@ -42,11 +35,7 @@ pub fn clear(work: &mut [u32], n: usize)
     requires { n ≤ length work.old }
     ensures { work.new ≡ replicate n 0 ++ drop n work.old }
 {
-    let mut i: usize = 0;
-    while i < n {
-        work[i] = 0;
-        i += 1;
-    }
+    work[..n].fill(0);
 }
 
 // Writes the part of the values in code `code` to the front of `out`, and gives its length in bytes. A chunked code works in
@@ -58,23 +47,19 @@ pub fn encode(out: &mut [u8], work: &mut [u32], values: &[u32], code: u8) -> usi
     ensures out_after { out.new ≡ part code values.now ++ drop result out.old }
     ensures work_after { work.new ≡ worked (kind_of code) (length values.now) work.old }
 {
-    let n = values.len();
-    let start = Writer {
-        at: 0,
-        have: 0,
-        acc: 0,
-    };
+    let start = Writer::new();
     let kind = kind_of(code);
     match kind {
         Kind::Fixed(w) => {
             let p = put_fixed(out, start, w, values);
-            finish(out, p)
+            p.finish(out)
         }
         Kind::Chunked(b) => {
-            copy_values(work, values);
-            let p = put_layers(out, start, b, work, n);
-            clear(work, n);
-            finish(out, p)
+            let front = &mut work[..values.len()];
+            front.copy_from_slice(values);
+            let p = put_layers(out, start, b, front);
+            front.fill(0);
+            p.finish(out)
         }
         // A refused code holds no values.
         Kind::Refused => 0,

@@ -2,25 +2,11 @@
 ghost use Rattle.std.specs.Prelude.{◌≡◌, ◌+◌, ◌-◌, ◌*◌, ◌%◌, ◌^◌, ◌<◌, ◌≤◌, min, length, take, drop, slice_index};
 ghost use Rattle.codes.specs.Bits.{number, bits_of};
 
-fn wide_byte(x: u8) -> u32
-    ensures { (result < 256) × (result ≡ x) }
-{
-    x as u32
-}
-
-// Byte `i`.
-pub(crate) fn byte(part: &[u8], i: usize) -> u64
-    requires { i < length part.now }
-    ensures { (result < 256) × (result ≡ slice_index part.now i) }
-{
-    wide_byte(part[i]) as u64
-}
-
 // The lesser of two numbers.
 pub fn least(a: usize, b: usize) -> usize
     ensures { result ≡ min a b }
 {
-    if a < b { a } else { b }
+    a.min(b)
 }
 
 // The `w` lowest bits of `x`.
@@ -37,12 +23,18 @@ fn short_word(part: &[u8]) -> u64
     ensures { result ≡ number (bits_of part.now) }
 {
     let mut acc: u64 = 0;
-    let mut i: usize = 0;
-    while i < part.len() {
-        acc = acc * 256 + byte(part, i);
-        i += 1;
+    for &b in part {
+        acc = acc * 256 + u64::from(b);
     }
     acc
+}
+
+// The `N` bytes from byte `first` on.
+pub(crate) fn bytes_at<const N: usize>(part: &[u8], first: usize) -> [u8; N]
+    requires { first + N ≤ length part.now }
+    ensures { result ≡ take N (drop first part.now) }
+{
+    <[u8; N]>::try_from(&part[first..first + N]).unwrap()
 }
 
 // The number that the 4 bytes from byte `first` on spell.
@@ -50,10 +42,7 @@ fn four_bytes(part: &[u8], first: usize) -> u32
     requires { first + 4 ≤ length part.now }
     ensures { result ≡ number (take 32 (drop (first * 8) (bits_of part.now))) }
 {
-    wide_byte(part[first]) * 16777216
-        + wide_byte(part[first + 1]) * 65536
-        + wide_byte(part[first + 2]) * 256
-        + wide_byte(part[first + 3])
+    u32::from_be_bytes(bytes_at(part, first))
 }
 
 // The number that the 8 bytes from byte `first` on spell.
@@ -61,7 +50,7 @@ fn word_at(part: &[u8], first: usize) -> u64
     requires { first + 8 ≤ length part.now }
     ensures { result ≡ number (take 64 (drop (first * 8) (bits_of part.now))) }
 {
-    four_bytes(part, first) as u64 * 4294967296 + four_bytes(part, first + 4) as u64
+    u64::from_be_bytes(bytes_at(part, first))
 }
 
 // A number whose lowest bits are the `w` bits from bit `at` on. They lie in one word: near the end of the part in its last 8 bytes.
@@ -74,7 +63,7 @@ pub(crate) fn read_word(part: &[u8], at: usize, w: usize) -> u64
     if end < 8 {
         return short_word(part) >> (end * 8 - at - w);
     }
-    let first = least(at / 8, end - 8);
+    let first = (at / 8).min(end - 8);
     word_at(part, first) >> (64 - (at - first * 8) - w)
 }
 
@@ -94,9 +83,9 @@ pub(crate) fn read_short(part: &[u8], at: usize, w: usize) -> u32
     requires w_in_bounds { at + w ≤ length part.now * 8 }
     ensures { result ≡ number (take w (drop at (bits_of part.now))) }
 {
-    let first = least(at / 8, part.len() - 4);
+    let first = (at / 8).min(part.len() - 4);
     low_bits(
-        four_bytes(part, first) as u64 >> (32 - (at - first * 8) - w),
+        u64::from(four_bytes(part, first)) >> (32 - (at - first * 8) - w),
         w,
     ) as u32
 }

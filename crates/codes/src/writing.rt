@@ -1,14 +1,14 @@
 // Bits into a buffer, one after the other.
-ghost use Rattle.std.specs.Prelude.{◌≡◌, ◌+◌, ◌-◌, ◌*◌, ◌/◌, ◌%◌, ◌^◌, ◌<◌, ◌≤◌, [], length, take, drop};
-ghost use Rattle.codes.specs.Bits.{bits, padded, bytes_for};
-ghost use Rattle.codes.specs.Written.{written, Wrote};
+ghost use Rattle.std.specs.Prelude.{◌≡◌, ◌+◌, ◌*◌, ◌^◌, ◌<◌, ◌≤◌, length, take, drop};
+ghost use Rattle.codes.specs.Bits.{bits, bytes_of, bytes_for, padded};
 
 // Where the next bit goes: `at` whole bytes are written, and the `have` lowest bits of `acc` wait for theirs.
 #[derive(Clone, Copy)]
 pub(crate) struct Writer {
-    pub(crate) at: usize,
-    pub(crate) have: usize,
-    pub(crate) acc: u64,
+    at: usize,
+    have: usize,
+    acc: u64,
+    ghost few: { have < 32 },
 }
 
 // A value as a word.
@@ -18,93 +18,59 @@ pub(crate) fn wide_value(x: u32) -> u64
     x as u64
 }
 
-// The bits of `acc`, those that a word has no room for left out, then the `w` bits of `x`.
-fn join(acc: u64, w: usize, x: u64) -> u64
-    requires { (w ≤ 32) × (x < 2 ^ w) }
-    ensures { result ≡ acc % 2 ^ (64 - w) * 2 ^ w + x }
+// The 32 lowest bits of `x`, as bytes, the highest first.
+fn word_bytes(x: u64) -> [u8; 4]
+    ensures { result ≡ bytes_of 4 (bits 32 x) }
 {
-    (acc << w) | x
+    ((x % 0x1_0000_0000) as u32).to_be_bytes()
 }
 
-// The eight bits of `acc` above its `h` lowest.
-fn byte_above(acc: u64, h: usize) -> u8
-    requires { h < 64 }
-    ensures { result ≡ acc / 2 ^ h % 256 }
-{
-    ((acc >> h) % 256) as u8
-}
+impl Writer {
+    ghost use Rattle.codes.specs.Written.{written, Wrote};
 
-// Stores the first 32 of the bits that wait.
-fn flush(out: &mut [u8], writer: Writer) -> Writer
-    requires le_have { (32 ≤ writer.have) × (writer.have < 64) }
-    requires have_in_bounds { writer.at * 8 + writer.have ≤ length out.old * 8 }
-    ensures { Wrote out.old writer out.new result [] × (result.have < 32) }
-{
-    let at = writer.at;
-    let have = writer.have - 32;
-    let first = writer.acc >> have;
-    out[at] = byte_above(first, 24);
-    out[at + 1] = byte_above(first, 16);
-    out[at + 2] = byte_above(first, 8);
-    out[at + 3] = byte_above(first, 0);
-    Writer {
-        at: at + 4,
-        have: have,
-        acc: writer.acc,
+    // At the front of a buffer, where no bit waits.
+    pub(crate) fn new() -> Writer
+        ensures { (result.at ≡ 0) × (result.have ≡ 0) }
+    {
+        Writer {
+            at: 0,
+            have: 0,
+            acc: 0,
+        }
     }
-}
 
-// Writes the `w` bits of `x`.
-pub(crate) fn put(out: &mut [u8], writer: Writer, w: usize, x: u64) -> Writer
-    requires w_bound { (w ≤ 32) × (x < 2 ^ w) × (writer.have < 32) }
-    requires w_in_bounds { writer.at * 8 + writer.have + w ≤ length out.old * 8 }
-    ensures { Wrote out.old writer out.new result (bits w x) × (result.have < 32) }
-{
-    let joined = Writer {
-        at: writer.at,
-        have: writer.have + w,
-        acc: join(writer.acc, w, x),
-    };
-    if joined.have < 32 {
-        return joined;
+    // Writes the `w` bits of `x`. Where 32 bits or more wait with them, the first 32 are stored.
+    pub(crate) fn put(self, out: &mut [u8], w: usize, x: u64) -> Writer
+        requires w_bound { (w ≤ 32) × (x < 2 ^ w) }
+        requires w_in_bounds { self.at * 8 + self.have + w ≤ length out.old * 8 }
+        ensures { Wrote out.old self out.new result (bits w x) }
+    {
+        let at = self.at;
+        let acc = (self.acc << w) | x;
+        let have = self.have + w;
+        if have < 32 {
+            return Writer { at, have, acc };
+        }
+        let have = have - 32;
+        out[at..at + 4].copy_from_slice(&word_bytes(acc >> have));
+        Writer {
+            at: at + 4,
+            have,
+            acc,
+        }
     }
-    flush(out, joined)
-}
 
-// Stores the whole bytes that wait.
-fn drain(out: &mut [u8], writer: Writer) -> Writer
-    requires have_bound { writer.have < 32 }
-    requires have_in_bounds { writer.at * 8 + writer.have ≤ length out.old * 8 }
-    ensures { Wrote out.old writer out.new result [] × (result.have < 8) × (result.acc ≡ writer.acc) }
-{
-    let mut at = writer.at;
-    let mut have = writer.have;
-    while have >= 8 {
-        have -= 8;
-        out[at] = byte_above(writer.acc, have);
-        at += 1;
+    // Stores what waits, the last byte filled with zero bits, and gives how many bytes are written.
+    pub(crate) fn finish(self, out: &mut [u8]) -> usize
+        requires { self.at * 8 + self.have ≤ length out.old * 8 }
+        ensures { (result ≡ bytes_for (self.at * 8 + self.have))
+            × (take result out.new ≡ padded (written out.old self))
+            × (drop result out.new ≡ drop result out.old) }
+    {
+        let last = self.have.div_ceil(8);
+        let end = self.at + last;
+        let bytes = word_bytes(self.acc << (32 - self.have));
+        out[self.at..end].copy_from_slice(&bytes[..last]);
+        end
     }
-    Writer {
-        at: at,
-        have: have,
-        acc: writer.acc,
-    }
-}
-
-// Stores what waits, the last byte filled with zero bits, and gives how many bytes are written.
-pub(crate) fn finish(out: &mut [u8], writer: Writer) -> usize
-    requires have_bound { writer.have < 32 }
-    requires have_in_bounds { writer.at * 8 + writer.have ≤ length out.old * 8 }
-    ensures { (result ≡ bytes_for (writer.at * 8 + writer.have))
-        × (take result out.new ≡ padded (written out.old writer))
-        × (drop result out.new ≡ drop result out.old) }
-{
-    let last = drain(out, writer);
-    let at = last.at;
-    let have = last.have;
-    if have == 0 {
-        return at;
-    }
-    out[at] = byte_above(last.acc << (8 - have), 0);
-    at + 1
 }

@@ -1,10 +1,12 @@
 -- Where code or length is not the chosen one, neither is the part. Else a part decoded to the values is what encode writes for them just
 -- where the bits after theirs are 0, which `zeros_after` tells.
-use Rattle.std.proofs.Common.{◌≡◌, ℕ, List, length, sym, ap, ◌∙◌, arith}
+use Rattle.std.proofs.Common.{◌≡◌, ℕ, List, length, sym, ◌∙◌, arith}
+use Rattle.std.specs.Int.{div_ceil}
 use Rattle.codes.specs.declared.choosing.Choice.{Choice}
+use Rattle.codes.specs.Bits.{bytes_for}
 use Rattle.codes.specs.Codes.{Within}
 use Rattle.codes.specs.Choice.{size, chosen}
-use Rattle.codes.proofs.Best.{chosen-size, chosen-at-most}
+use Rattle.codes.proofs.Best.{chosen-size}
 use Rattle.codes.proofs.ChosenParts.{other-code, other_length, chosen-code}
 use Rattle.codes.proofs.DecodedParts.{same-part}
 use Rattle.codes.proofs.comparing.is_chosen.Goals as goal
@@ -16,15 +18,14 @@ its_size vs code r e h = let same : (chosen vs).code ≡ code = rw e at h in (sa
 pub returns-then-choice-code : goal.returns-then-choice-code
 returns-then-choice-code c = sym (other-code c.args.code c.args.values.now c.args.part.now (rw c.choose-choice.ensures at c.if-choice-code.true))
 
-pub overflow_add-size : goal.overflow_add-size
-overflow_add-size c =
-    let vs = c.args.values.now in
-    omega (arith, ap (λ (x : Choice). x.size) c.choose-choice.ensures, chosen-at-most vs (λ j. (c.type_inv.values j).fits))
+-- whole bytes for n bits
+whole : (n r : ℕ) → r ≡ div_ceil n 8 → r ≡ bytes_for n
+whole n r e = omega (arith, e)
 
-pub returns-then-part-size : goal.returns-then-part-size
-returns-then-part-size c =
+pub returns-then-part-div_ceil : goal.returns-then-part-div_ceil
+returns-then-part-div_ceil c =
     let s = its_size c.args.values.now c.args.code c.choose-choice.result c.choose-choice.ensures c.if-choice-code.false in
-    sym (other_length c.args.code c.args.values.now c.args.part.now (rw s.1 at c.if-part-size.true))
+    sym (other_length c.args.code c.args.values.now c.args.part.now (rw (whole _ _ c.div_ceil.ensures, s.1) at c.if-part-div_ceil.true))
 
 pub returns : goal.returns
 returns c =
@@ -32,5 +33,5 @@ returns c =
     let bytes = c.args.part.now in
     let s = its_size vs c.args.code c.choose-choice.result c.choose-choice.ensures c.if-choice-code.false in
     let w : Within 8 bytes = λ j. (c.type_inv.part j).fits in
-    rw s.1 at c.zeros_after.ensures ∙ sym (same-part c.args.code (length vs) bytes vs c.requires.part_value w (rw s.1 at c.if-part-size.false))
+    rw s.1 at c.zeros_after.ensures ∙ sym (same-part c.args.code (length vs) bytes vs c.requires.part_value w (rw (whole _ _ c.div_ceil.ensures, s.1) at c.if-part-div_ceil.false))
     ∙ sym (chosen-code c.args.code vs bytes s.0)

@@ -5,7 +5,7 @@ use Rattle.codes.proofs.counting.ones_in_few.Goals as goal
 
 pub loop-i-init : goal.loop-i-init
 unfolding sum
-loop-i-init c = (omega arith, omega arith, refl)
+loop-i-init c = (omega arith, refl)
 
 pub loop-i-preserved : goal.loop-i-preserved
 loop-i-preserved c =
@@ -14,9 +14,4 @@ loop-i-preserved c =
     let e : (i + 1) * 64 ≡ i * 64 + 64 = omega arith in
     let e' : c.args.first * 8 + i * 64 ≡ at = omega arith in
     let more = rw e' at (ones-more c.args.part.now (c.args.first * 8) (i * 64) 64) in
-    rw (e, more) (omega arith, omega arith, omega (arith, c.ones_word.ensures))
-
-pub returns : goal.returns
-returns c =
-    let e : c.loop-i.i ≡ c.args.words = omega arith in
-    (rw e at c.loop-i.invariant.1, rw e at c.loop-i.invariant.2)
+    rw (e, more) (omega arith, omega (arith, c.ones_word.ensures))

@@ -1,11 +1,7 @@
 -- After i turns `count` is the number of ones in the first i words, at most 64 for each.
-use Rattle.std.proofs.Common.{◌≡◌, ◌-◌, ◌*◌, ◌≤◌, take, drop}
+use Rattle.std.proofs.Common.{◌≡◌, ◌*◌, ◌≤◌, take, drop}
 use Rattle.codes.specs.Bits.{sum, bits_of}
 use Rattle.codes.proofs.counting.ones_in_few.Given as goal
 
 abbrev pub invariant-loop-i : goal.invariant-loop-i
-invariant-loop-i l =
-    (l.i ≤ l.words) × (l.count ≤ l.i * 64) × (l.count ≡ sum (take (l.i * 64) (drop (l.first * 8) (bits_of l.part))))
-
-abbrev pub decreases-loop-i : goal.decreases-loop-i
-decreases-loop-i l = l.words - l.i
+invariant-loop-i l = (l.count ≤ l.i * 64) × (l.count ≡ sum (take (l.i * 64) (drop (l.first * 8) (bits_of l.part))))

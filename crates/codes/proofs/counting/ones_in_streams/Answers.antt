@@ -12,4 +12,4 @@ pub returns : goal.returns
 returns c =
     let e : c.loop-i.i ≡ c.args.turns = omega arith in
     let e' : 15 * (c.args.turns * 64) ≡ c.args.turns * 960 = omega arith in
-    (omega arith, c.loop-i.invariant.2 ∙ rw (e, streams-all 15 c.args.turns c.args.part.now c.args.first, e'))
+    (omega arith, c.loop-i.invariant.1 ∙ rw (e, streams-all 15 c.args.turns c.args.part.now c.args.first, e'))

@@ -1,14 +1,21 @@
--- The first half is below 2^32, so the second, times 2^32, stands above it and the ones of both add up.
-use Rattle.std.proofs.Common.{◌≡◌, ◌+◌, ◌*◌, ◌^◌, ap, ◌∙◌, arith}
-use lib.Count.{ones, ones_cat}
-use Rattle.codes.proofs.Words.{ones-more}
+-- Eight bytes from the lowest on make a number with the ones of their bits (`ones-reversed`).
+use Rattle.std.proofs.Common.{ℕ, ◌<◌, ap, ◌∙◌, arith}
+use lib.Count.{ones}
+use Rattle.codes.proofs.Words.{entry-there, ones-reversed}
 use Rattle.codes.proofs.counting.ones_word.Goals as goal
 
 pub returns : goal.returns
 returns c =
-    let low = c.ones_half.result in
-    let high = c.ones_half-2.result in
-    let swap : low + high * 4294967296 ≡ high * 2 ^ 32 + low = omega arith in
-    let e : (c.args.first + 4) * 8 ≡ c.args.first * 8 + 32 = omega arith in
-    let above = rw e at c.ones_half-2.ensures.1 in
-    ap ones swap ∙ ones_cat 32 high low c.ones_half.ensures.0 ∙ omega (arith, above, ones-more c.args.part.now (c.args.first * 8) 32 32)
+    let at = λ (j : ℕ) (h : j < 8). entry-there c.args.part.now c.bytes_at.result 8 c.args.first j c.bytes_at.ensures h in
+    ap ones (omega (
+      arith,
+      c.from_le_bytes.ensures,
+      at 0 (omega arith),
+      at 1 (omega arith),
+      at 2 (omega arith),
+      at 3 (omega arith),
+      at 4 (omega arith),
+      at 5 (omega arith),
+      at 6 (omega arith),
+      at 7 (omega arith),
+    )) ∙ (ones-reversed 8 c.args.part.now c.args.first (omega arith) (λ i. (c.type_inv.part i).fits)).1

@@ -1,56 +1,55 @@
-use Rattle.std.proofs.Common.{◌≡◌, ℕ, ◌+◌, ◌-◌, ◌*◌, ◌/◌, ◌≤◌, List, length, take, drop, refl, le_trans, mul-le-mul_right, le-div_iff_mul-le, div-mul-le_self, arith, length-drop, length-take-le, get_or-take}
-use Rattle.codes.specs.Bits.{bits_of}
+use Rattle.std.proofs.Common.{◌≡◌, ℕ, zero, suc, ◌+◌, ◌-◌, ◌*◌, ◌/◌, ◌%◌, ◌<◌, ◌≤◌, min, length, take, mul-le-mul_right, le-div_iff_mul-le, arith, get_or-take}
+use Rattle.std.proofs.lemmas.Grind.{div_ceil_times}
 use Rattle.codes.specs.Merging.{continuations_at, chunks_at}
-use Rattle.codes.proofs.Bits.{length-fixed, sum-take-add}
-use Rattle.codes.proofs.Merges.{merging-first, merging-last}
+use Rattle.codes.proofs.Bits.{sum-take-add}
+use Rattle.codes.proofs.Merges.{length-continuations, merging-last}
 use Rattle.codes.proofs.decoding.merge.Goals as goal
 
-length-ms : (bytes : List ℕ) (at n : ℕ) → at + n ≤ length bytes * 8 → length (continuations_at bytes at n) ≡ n
-length-ms bytes at n h = length-take-le n (drop at (bits_of bytes)) (simp (length-drop, length-fixed) (omega arith))
+-- one value at least
+some : (b : ℕ) → (1 ≤ b) × (b ≤ 8) → 0 < 56 / b
+some b h = (le-div_iff_mul-le h.0).1 (omega arith)
 
-pub loop-i-init : goal.loop-i-init
-loop-i-init c =
-    let ms = continuations_at c.args.part.now c.args.at c.args.n in
-    let m = merging-first c.args.b ms (chunks_at c.args.part.now c.args.at c.args.n) c.args.values.now c.args.rests c.requires.rests_value.0 in
-    (omega arith, refl, omega arith, (le-div_iff_mul-le c.requires.le_b.0).1 (omega arith), div-mul-le_self 56 c.args.b, rw (length-ms c.args.part.now c.args.at c.args.n (omega arith)) at m)
+-- the group before the place where those after it begin
+ends : (n room group : ℕ) → 0 < room → 0 < group → group ≤ n / room + min 1 (n % room)
+    → let from = (group - 1) * room in (from < n) × (from + min room (n - from) ≡ min n (group * room))
+ends n room zero one left few = absurd (omega arith)
+ends n room (suc j) one left few =
+    let last = div_ceil_times n room one in
+    let there = mul-le-mul_right room few in
+    let e : suc j - 1 ≡ j = omega arith in
+    rw e (omega arith, omega arith)
 
-pub merge_group-kept-requires : goal.merge_group-kept-requires
-merge_group-kept-requires c =
-    let r = c.radix_of-radix.ensures in
-    let m = c.loop-i.invariant.5 in
-    let k = c.least-k.ensures in
-    let h : c.least-k.result ≤ 56 / c.args.b = omega arith in
-    let e : c.loop-i.i - c.least-k.result + c.least-k.result ≡ c.loop-i.i = omega arith in
-    record {
-      radix = (
-        r.1,
-        rw r.0 (record {
-          some = c.requires.le_b.0;
-          few = c.requires.le_b.1;
-          inside = rw e c.loop-i.invariant.0;
-          room = omega arith;
-          whole = c.requires.le_b.4;
-          ones = rw e m.ones;
-          small = λ q h. rw (m.unused q h, get_or-take c.args.rests c.args.values.now q 0 (omega arith)) (c.requires.rests_value.1 q (omega arith));
-        }),
-      );
-      le_k = (omega arith, rw r.0 (le_trans (mul-le-mul_right c.args.b h) c.loop-i.invariant.4), c.requires.le_b.3);
-    }
+pub merge_group-kept-requires-clause-group : goal.merge_group-kept-requires-clause-group
+merge_group-kept-requires-clause-group c =
+    let n = length c.args.values.now in
+    let e : length c.loop-group.values ≡ n = omega arith in
+    let was = c.loop-group.invariant.2 in
+    let group = ends n (56 / c.args.radix.bits) c.loop-group.group (some c.args.radix.bits c.args.radix.range) c.loop-group-test.true (rw c.div_ceil-group.ensures at c.loop-group.auto.group) in
+    rw e (record {
+      count = e;
+      inside = omega arith;
+      whole = c.requires.whole.1;
+      ones = rw (c.min-k.ensures, group.1) was.ones;
+      small = λ q h. rw (was.unused q h, get_or-take c.args.rests c.args.values.now q 0 (omega arith)) (c.requires.rests_value.1 q (omega arith));
+    })
 
-pub loop-i-preserved : goal.loop-i-preserved
-loop-i-preserved c =
-    let r = c.radix_of-radix.ensures in
-    let k = c.least-k.result in
-    let e : c.loop-i.i ≡ c.loop-i.i - k + k = omega (arith, c.least-k.ensures) in
-    let m = rw r.0 at (c.merge_group-kept.ensures (take c.args.rests c.args.values.now) (rw r.0 (rw e at c.loop-i.invariant.5))) in
-    let s = sum-take-add (c.loop-i.i - k) k (continuations_at c.args.part.now c.args.at c.args.n) in
-    (omega arith, omega arith, omega (arith, m.ones, rw e at c.loop-i.invariant.5.ones), c.loop-i.invariant.3, c.loop-i.invariant.4, m)
-
-pub shape_of-values : goal.shape_of-values
-shape_of-values c = c.loop-i.invariant.1
+pub loop-group-preserved : goal.loop-group-preserved
+loop-group-preserved c =
+    let n = length c.args.values.now in
+    let from = (c.loop-group.group - 1) * (56 / c.args.radix.bits) in
+    let e : length c.loop-group.values ≡ n = omega arith in
+    let was = c.loop-group.invariant.2 in
+    let group = ends n (56 / c.args.radix.bits) c.loop-group.group (some c.args.radix.bits c.args.radix.range) c.loop-group-test.true (rw c.div_ceil-group.ensures at c.loop-group.auto.group) in
+    let m = rw e at c.merge_group-kept.ensures (take c.args.rests c.args.values.now) (rw (c.min-k.ensures, group.1) was) in
+    let here : min n from ≡ from = omega arith in
+    let s = sum-take-add from (min (56 / c.args.radix.bits) (n - from)) (continuations_at c.args.part.now c.args.at n) in
+    (omega arith, omega (arith, m.ones, was.ones, rw group.1 at s), rw here m)
 
 pub returns : goal.returns
 returns c =
-    let e : c.loop-i.i ≡ 0 = omega arith in
-    merging-last c.args.b (continuations_at c.args.part.now c.args.at c.args.n) (chunks_at c.args.part.now c.args.at c.args.n) (take c.args.rests c.args.values.now) c.loop-i.values c.loop-i.kept c.args.n
-    (length-ms c.args.part.now c.args.at c.args.n (omega arith)) (omega arith) (rw e at c.loop-i.invariant.5)
+    let n = length c.args.values.now in
+    let e : length c.loop-group.values ≡ n = omega arith in
+    let none : min n (c.loop-group.group * (56 / c.args.radix.bits)) ≡ 0 = let z : c.loop-group.group ≡ 0 = omega arith in rw z (omega arith) in
+    let count = length-continuations c.args.part.now c.args.at n (omega arith) in
+    merging-last c.args.radix.bits (continuations_at c.args.part.now c.args.at n) (chunks_at c.args.part.now c.args.at n) (take c.args.rests c.args.values.now) c.loop-group.values c.loop-group.kept
+    (rw e count) (rw none at c.loop-group.invariant.2)

@@ -1,38 +1,38 @@
--- Both reads have the bits of the whole group, one and b for each value.
-use Rattle.std.proofs.Common.{◌+◌, ◌*◌, ◌≤◌, length, mul-le-mul, mul-le-mul_left, mul-one, arith}
-use Rattle.codes.proofs.Groups.{group-whole}
+use Rattle.std.proofs.Common.{◌≡◌, ℕ, suc, ◌+◌, ◌-◌, ◌^◌, ◌<◌, arith, w32, Fits}
+use Rattle.codes.proofs.Groups.{group-whole, turn}
 use Rattle.codes.proofs.decoding.merge_group.Goals as goal
 
-pub overflow_add-span : goal.overflow_add-span
-overflow_add-span c =
-    let chunks-in : c.args.span.at + c.args.span.n + (c.args.span.from + c.args.span.k) * c.args.radix.bits ≤ length c.args.part.now * 8 = group-whole c.requires.radix.1 in
-    omega (arith, chunks-in)
+in-32 : (x : ℕ) → x < 2 ^ 32 → Fits w32 x
+in-32 x h = omega arith
 
-pub read-mores-requires : goal.read-mores-requires
-read-mores-requires c =
-    let chunks-in : c.args.span.at + c.args.span.n + (c.args.span.from + c.args.span.k) * c.args.radix.bits ≤ length c.args.part.now * 8 = group-whole c.requires.radix.1 in
-    let few : c.args.span.k * 1 ≤ c.args.span.k * c.args.radix.bits = mul-le-mul_left c.args.span.k c.requires.radix.1.some in
-    omega (arith, chunks-in, few, c.requires.radix.1)
+pub read-chunks-requires-clause-w_in_bounds : goal.read-chunks-requires-clause-w_in_bounds
+read-chunks-requires-clause-w_in_bounds c = omega (arith, group-whole c.requires.group)
 
-pub overflow_add-span-2 : goal.overflow_add-span-2
-overflow_add-span-2 c =
-    let chunks-in : c.args.span.at + c.args.span.n + (c.args.span.from + c.args.span.k) * c.args.radix.bits ≤ length c.args.part.now * 8 = group-whole c.requires.radix.1 in
-    omega (arith, chunks-in)
+pub overflow_sub-kept : goal.overflow_sub-kept
+overflow_sub-kept c = (turn c.args.radix.range.1 c.loop-j.invariant.0 c.loop-j-test.true).some
 
-pub overflow_mul-from : goal.overflow_mul-from
-overflow_mul-from c =
-    let chunks-in : c.args.span.at + c.args.span.n + (c.args.span.from + c.args.span.k) * c.args.radix.bits ≤ length c.args.part.now * 8 = group-whole c.requires.radix.1 in
-    omega (arith, chunks-in)
+pub offset_bounds-values-kept : goal.offset_bounds-values-kept
+offset_bounds-values-kept c =
+    let last = turn c.args.radix.range.1 c.loop-j.invariant.0 c.loop-j-test.true in
+    omega (arith, c.loop-j.invariant.0.group)
 
-pub overflow_add-span-3 : goal.overflow_add-span-3
-overflow_add-span-3 c =
-    let chunks-in : c.args.span.at + c.args.span.n + (c.args.span.from + c.args.span.k) * c.args.radix.bits ≤ length c.args.part.now * 8 = group-whole c.requires.radix.1 in
-    omega (arith, chunks-in)
+pub bounds-values-kept : goal.bounds-values-kept
+bounds-values-kept c =
+    let last = turn c.args.radix.range.1 c.loop-j.invariant.0 c.loop-j-test.true in
+    omega (arith, c.loop-j.invariant.0.group)
 
-pub read-chunks-requires : goal.read-chunks-requires
-read-chunks-requires c =
-    let chunks-in : c.args.span.at + c.args.span.n + (c.args.span.from + c.args.span.k) * c.args.radix.bits ≤ length c.args.part.now * 8 = group-whole c.requires.radix.1 in
-    omega (arith, chunks-in, mul-le-mul c.requires.le_k.0 c.requires.radix.1.some)
+pub overflow_cast-values : goal.overflow_cast-values
+overflow_cast-values c =
+    let last = turn c.args.radix.range.1 c.loop-j.invariant.0 c.loop-j-test.true in
+    rw (c.from.ensures, c.args.radix.scale, c.low_bits.ensures.1) (in-32 _ last.fits)
 
-pub merge_by_width-requires : goal.merge_by_width-requires
-merge_by_width-requires c = (c.requires.radix.0, (c.requires.radix.1, rw (mul-one c.args.span.k) c.read-mores.ensures.1, c.read-chunks.ensures.1))
+pub loop-j-preserved : goal.loop-j-preserved
+loop-j-preserved c =
+    let last = turn c.args.radix.range.1 c.loop-j.invariant.0 c.loop-j-test.true in
+    let e : c.args.span.from + c.loop-j.j ≡ c.args.span.from + suc (c.loop-j.j - 1) = omega arith in
+    rw (c.from.ensures, c.args.radix.scale, c.low_bits.ensures.1) (last.left, λ rests m. last.merges rests (rw e at (c.loop-j.invariant.1 rests m)))
+
+pub returns : goal.returns
+returns c =
+    let e : c.args.span.from + c.loop-j.j ≡ c.args.span.from = omega arith in
+    λ rests m. rw e at (c.loop-j.invariant.1 rests m)

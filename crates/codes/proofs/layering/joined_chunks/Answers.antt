@@ -1,4 +1,4 @@
-use Rattle.std.proofs.Common.{◌≡◌, ℕ, ◌+◌, ◌*◌, ◌/◌, ◌%◌, ◌^◌, ◌<◌, ◌≤◌, List, length, get_or, take, drop, sym, refl, ◌∙◌, append-nil, mul-le-mul_right, zero-mul, arith, length-drop, length-set, get_or-drop, drop-set-lt, pow_mono, shl_lt}
+use Rattle.std.proofs.Common.{◌≡◌, ℕ, ◌+◌, ◌*◌, ◌/◌, ◌%◌, ◌^◌, ◌<◌, ◌≤◌, List, length, get_or, take, drop, sym, refl, ◌∙◌, append-nil, zero-mul, arith, length-drop, get_or-drop, drop-set-lt}
 use Rattle.codes.specs.Bits.{number, fixed}
 use Rattle.codes.specs.Codes.{rest}
 use Rattle.codes.proofs.Bits.{bits-fixed, number_lt}
@@ -20,42 +20,20 @@ next b vs us from i h n e =
 
 pub loop-i-init : goal.loop-i-init
 unfolding number fixed rest
-loop-i-init c = (omega arith, omega arith, refl, refl, sym (append-nil (take c.args.left c.args.values.now)), refl, rw (zero-mul c.args.radix.bits) (omega arith))
-
-pub overflow_mul-joined : goal.overflow_mul-joined
-overflow_mul-joined c =
-    let t : c.loop-i.i + 1 ≤ c.args.n = omega arith in
-    let r : c.loop-i.i * c.args.radix.bits + c.args.radix.bits ≤ 32 = omega (arith, mul-le-mul_right c.args.radix.bits t) in
-    rw c.requires.bits_bound.1 (omega (arith, shl_lt (c.loop-i.i * c.args.radix.bits) c.args.radix.bits c.loop-i.invariant.6, pow_mono r))
-
-pub overflow_add-joined : goal.overflow_add-joined
-overflow_add-joined c =
-    let m = next c.args.radix.bits c.loop-i.values c.args.values.now c.args.from c.loop-i.i (omega arith) (omega arith) c.loop-i.invariant.3 in
-    let t : c.loop-i.i + 1 ≤ c.args.n = omega arith in
-    rw (c.requires.bits_bound.1, c.chunk_of.ensures, c.loop-i.invariant.5) (omega (arith, m, pow_mono {i = (c.loop-i.i + 1) * c.args.radix.bits} {j = 32} (omega (arith, mul-le-mul_right c.args.radix.bits t))))
+loop-i-init c = (omega arith, refl, sym (append-nil (take c.args.left c.args.values.now)), refl, rw (zero-mul c.args.radix.bits) (omega arith))
 
 pub loop-i-preserved : goal.loop-i-preserved
 loop-i-preserved c =
     let us = c.args.values.now in
     let ws = drop c.args.from us in
     let at = c.args.from + c.loop-i.i in
-    let e : get_or c.loop-i.values at 0 ≡ get_or ws c.loop-i.i 0 = get_or-there c.loop-i.values us at c.loop-i.invariant.3 0 ∙ sym (get_or-drop c.args.from us c.loop-i.i 0) in
+    let e : get_or c.loop-i.values at 0 ≡ get_or ws c.loop-i.i 0 = get_or-there c.loop-i.values us at c.loop-i.invariant.1 0 ∙ sym (get_or-drop c.args.from us c.loop-i.i 0) in
     let q = get_or c.loop-i.values at 0 / 2 ^ c.args.radix.bits in
-    let m = next c.args.radix.bits c.loop-i.values us c.args.from c.loop-i.i (omega arith) (omega arith) c.loop-i.invariant.3 in
+    let m = next c.args.radix.bits c.loop-i.values us c.args.from c.loop-i.i (omega arith) (omega arith) c.loop-i.invariant.1 in
     let k : c.args.from + (c.loop-i.i + 1) ≡ at + 1 = omega arith in (
       omega arith,
-      omega arith,
-      length-set c.loop-i.values c.loop-i.kept q ∙ c.loop-i.invariant.2,
-      rw k (drop-set-lt (at + 1) c.loop-i.values c.loop-i.kept q (omega arith) ∙ drop-later c.loop-i.values us at c.loop-i.invariant.3 (at + 1) (omega arith)),
-      rw (c.continuation_bit.ensures.1, e) (rest-suc c.args.radix.bits c.loop-i.kept c.loop-i.i c.loop-i.values ws (take c.args.left us) (omega arith) (simp length-drop (omega arith)) c.loop-i.invariant.4),
-      rw (c.requires.bits_bound.1, c.chunk_of.ensures, c.loop-i.invariant.5) m.0,
-      rw (c.requires.bits_bound.1, c.chunk_of.ensures, c.loop-i.invariant.5) m.1,
+      rw k (drop-set-lt (at + 1) c.loop-i.values c.loop-i.left q (omega arith) ∙ drop-later c.loop-i.values us at c.loop-i.invariant.1 (at + 1) (omega arith)),
+      rw (c.more.ensures.1, e) (rest-suc c.args.radix.bits c.loop-i.left c.loop-i.i c.loop-i.values ws (take c.args.left us) (omega arith) (simp length-drop (omega arith)) c.loop-i.invariant.2),
+      rw (c.args.radix.scale, c.chunk.ensures, c.loop-i.invariant.3) m.0,
+      rw (c.args.radix.scale, c.chunk.ensures, c.loop-i.invariant.3) m.1,
     )
-
-pub shape_of-values : goal.shape_of-values
-shape_of-values c = c.loop-i.invariant.2
-
-pub returns : goal.returns
-returns c =
-    let e : c.loop-i.i ≡ c.args.n = omega arith in
-    (rw e at c.loop-i.invariant.5, omega arith, rw e at c.loop-i.invariant.4, rw e at c.loop-i.invariant.3)

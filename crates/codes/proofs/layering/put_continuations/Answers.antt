@@ -1,35 +1,27 @@
-use Rattle.std.proofs.Common.{◌≡◌, take, drop, arith, length-drop}
+use Rattle.std.proofs.Common.{◌++◌, map, sym, ap, ◌∙◌, append_assoc, arith}
+use Rattle.std.proofs.lemmas.List.{length-map}
+use mathlib.Core.List.{map-append}
+use Rattle.codes.specs.Codes.{continuation}
 use Rattle.codes.proofs.Bits.{number_lt, bits-number}
-use Rattle.codes.proofs.BitsWritten.{wrote_nothing, wrote-both}
+use Rattle.codes.proofs.BitsWritten.{wrote-both}
 use Rattle.codes.proofs.Layers.{bits-continuations}
-use Rattle.codes.proofs.LayersWritten.{continuations, length-continuations, continuations-add}
 use Rattle.codes.proofs.layering.put_continuations.Goals as goal
 
-pub loop-i-init : goal.loop-i-init
-loop-i-init c = (omega arith, wrote_nothing c.args.out.now c.args.writer, omega arith)
+pub put-p-requires-clause-w_bound : goal.put-p-requires-clause-w_bound
+put-p-requires-clause-w_bound c =
+    let b = c.args.radix.bits in
+    let vs = c.in-Some.group.now in
+    let x = number_lt (map (continuation b) vs) (bits-continuations b vs) (length-map vs (continuation b)) in
+    (omega (arith, c.in-Some.ensures.steps), rw c.joined_continuations.ensures x)
 
-pub put-p-requires : goal.put-p-requires
-put-p-requires c =
-    let k = c.least-k.result in
-    let w = c.loop-i.invariant.1 in
-    let vs = drop c.loop-i.i c.args.values.now in
-    let n = length-continuations c.args.radix.bits vs k (simp length-drop (omega arith)) in
-    let x = number_lt (continuations c.args.radix.bits vs k) (bits-continuations c.args.radix.bits (take k vs)) n in
-    omega (arith, c.joined_continuations.ensures, length-continuations c.args.radix.bits c.args.values.now c.loop-i.i (omega arith))
-
-pub loop-i-preserved : goal.loop-i-preserved
-loop-i-preserved c =
-    let k = c.least-k.result in
-    let u = c.put-p.ensures in
-    let vs = drop c.loop-i.i c.args.values.now in
-    let n = length-continuations c.args.radix.bits vs k (simp length-drop (omega arith)) in
-    let b = bits-number (continuations c.args.radix.bits vs k) (bits-continuations c.args.radix.bits (take k vs)) n in
-    (omega arith, rw (continuations-add c.args.radix.bits c.args.values.now c.loop-i.i k) (wrote-both c.loop-i.invariant.1 (rw (c.joined_continuations.ensures, b) at u.0)), u.1)
-
-pub shape_of-out : goal.shape_of-out
-shape_of-out c = c.loop-i.invariant.1.kept
-
-pub returns : goal.returns
-returns c =
-    let e : c.loop-i.i ≡ c.args.n = omega arith in
-    (rw e at c.loop-i.invariant.1, c.loop-i.invariant.2)
+pub loop-group-preserved : goal.loop-group-preserved
+loop-group-preserved c =
+    let b = c.args.radix.bits in
+    let vs = c.in-Some.group.now in
+    let v = c.loop-group.invariant in
+    let e = bits-number (map (continuation b) vs) (bits-continuations b vs) (length-map vs (continuation b)) in (
+      v.0 ++ vs,
+      append_assoc v.0 vs _ ∙ ap (λ m. v.0 ++ m) (sym c.in-Some.ensures.steps.1.0) ∙ v.1,
+      c.in-Some.ensures.steps.0 ∙ v.2,
+      rw (map-append (continuation b) v.0 vs) (wrote-both v.3 (rw (c.joined_continuations.ensures, e) at c.put-p.ensures)),
+    )

@@ -1,77 +1,61 @@
-use Rattle.std.proofs.Common.{◌≡◌, ℕ, ◌+◌, ◌*◌, ◌/◌, ◌%◌, List, length, get_or, take, drop, arith}
+use Rattle.std.proofs.Common.{◌≡◌, ℕ, ◌+◌, ◌*◌, ◌/◌, ◌<◌, List, [], length, get_or, take, drop, ap, arith, length-drop}
+use Rattle.std.specs.Simd.{first_chunks}
+use Rattle.codes.specs.declared.measuring.Counts.{Counts}
 use Rattle.codes.specs.Measure.{tally, counted}
 use Rattle.codes.proofs.Lists.{zeros-at}
-use Rattle.codes.proofs.Tallies.{tally-le, tally-few, tally-after, tally-quarters}
+use Rattle.codes.proofs.Tallies.{tally-le, tally-few, tally-chunk, tally-apart}
 use Rattle.codes.proofs.measuring.measure.Goals as goal
 
--- all quarters are passed
-all : (vs first second third fourth : List ℕ) (a q i : ℕ) → a + q * 4 ≡ length vs → i ≡ q
-    → ((z : ℕ) → get_or first z 0 ≡ tally z (take a vs) + tally z (take i (drop a vs)))
-    → ((z : ℕ) → get_or second z 0 ≡ tally z (take i (drop (a + q) vs)))
-    → ((z : ℕ) → get_or third z 0 ≡ tally z (take i (drop (a + q * 2) vs)))
-    → ((z : ℕ) → get_or fourth z 0 ≡ tally z (take i (drop (a + q * 3) vs)))
-    → (z : ℕ) → counted first second third fourth z ≡ tally z vs
-all vs first second third fourth a q i n e f s t u z =
-    omega (arith, rw e at (f z), rw e at (s z), rw e at (t z), rw e at (u z), tally-quarters z vs a q n)
+-- the values over a whole number of fours and the fours passed are not more than the values
+few : (z : ℕ) (vs : List ℕ) (i : ℕ) → i < length vs / 4 → tally z (drop (length vs / 4 * 4) vs) + tally z (take (i * 4) vs) + 4 < length vs + 1
+few z vs i h =
+    omega (arith, tally-few z (i * 4) vs, tally-le z (drop (length vs / 4 * 4) vs), length-drop (length vs / 4 * 4) vs)
 
-pub loop-i-init : goal.loop-i-init
+pub loop-a-init : goal.loop-a-init
 unfolding tally
-loop-i-init c = (omega arith, (omega arith, omega arith, omega arith, omega arith), λ z. omega (arith, c.tally_first-first.ensures z), λ z. zeros-at 33 z, λ z. zeros-at 33 z, λ z. zeros-at 33 z)
+loop-a-init c =
+    let values : List ℕ = c.args.values.now in
+    let rest : c.as_chunks.result.1.now ≡ drop (length values / 4 * 4) values = c.as_chunks.ensures.back in
+    λ z. omega (arith, rw rest at (c.tally.ensures z), zeros-at 33 z)
 
 pub count-requires : goal.count-requires
-count-requires c =
-    let values : List ℕ = c.args.values.now in
-    let vs = values in
-    (c.loop-i.invariant.1.0, λ z. omega (arith, c.loop-i.invariant.2 z, tally-few z (length vs % 4) vs, tally-few z c.loop-i.i (drop (length vs % 4) vs)))
+count-requires c = λ z. omega (arith, c.loop-a.invariant z, few z c.args.values.now c.loop-a.a-index (omega arith))
 
-pub count-requires-in-loop-i : goal.count-requires-in-loop-i
-count-requires-in-loop-i c =
-    let values : List ℕ = c.args.values.now in
-    let vs = values in
-    (c.loop-i.invariant.1.1, λ z. omega (arith, c.loop-i.invariant.3 z, tally-few z c.loop-i.i (drop (length vs % 4 + length vs / 4) vs)))
+pub count-requires-in-loop-a : goal.count-requires-in-loop-a
+count-requires-in-loop-a c = λ z. omega (arith, c.loop-a.invariant z, few z c.args.values.now c.loop-a.a-index (omega arith))
 
-pub count-requires-in-loop-i-2 : goal.count-requires-in-loop-i-2
-count-requires-in-loop-i-2 c =
-    let values : List ℕ = c.args.values.now in
-    let vs = values in
-    (c.loop-i.invariant.1.2, λ z. omega (arith, c.loop-i.invariant.4 z, tally-few z c.loop-i.i (drop (length vs % 4 + length vs / 4 * 2) vs)))
+pub count-requires-in-loop-a-2 : goal.count-requires-in-loop-a-2
+count-requires-in-loop-a-2 c = λ z. omega (arith, c.loop-a.invariant z, few z c.args.values.now c.loop-a.a-index (omega arith))
 
-pub count-requires-in-loop-i-3 : goal.count-requires-in-loop-i-3
-count-requires-in-loop-i-3 c =
-    let values : List ℕ = c.args.values.now in
-    let vs = values in
-    (c.loop-i.invariant.1.3, λ z. omega (arith, c.loop-i.invariant.5 z, tally-few z c.loop-i.i (drop (length vs % 4 + length vs / 4 * 3) vs)))
+pub count-requires-in-loop-a-3 : goal.count-requires-in-loop-a-3
+count-requires-in-loop-a-3 c = λ z. omega (arith, c.loop-a.invariant z, few z c.args.values.now c.loop-a.a-index (omega arith))
 
-pub loop-i-preserved : goal.loop-i-preserved
-loop-i-preserved c =
+pub loop-a-preserved : goal.loop-a-preserved
+loop-a-preserved c =
     let values : List ℕ = c.args.values.now in
-    let vs = values in
-    let a = length vs % 4 in
-    let q = length vs / 4 in (
-      omega arith,
-      (c.count.ensures.counts_len, c.count-in-loop-i.ensures.counts_len, c.count-in-loop-i-2.ensures.counts_len, c.count-in-loop-i-3.ensures.counts_len),
-      λ z. omega (arith, c.loop-i.invariant.2 z, c.count.ensures.by_index z, tally-after z vs a c.loop-i.i (omega arith)),
-      λ z. omega (arith, c.loop-i.invariant.3 z, c.count-in-loop-i.ensures.by_index z, tally-after z vs (a + q) c.loop-i.i (omega arith)),
-      λ z. omega (arith, c.loop-i.invariant.4 z, c.count-in-loop-i-2.ensures.by_index z, tally-after z vs (a + q * 2) c.loop-i.i (omega arith)),
-      λ z. omega (arith, c.loop-i.invariant.5 z, c.count-in-loop-i-3.ensures.by_index z, tally-after z vs (a + q * 3) c.loop-i.i (omega arith)),
-    )
-
-pub sums-requires : goal.sums-requires
-sums-requires c =
-    let values : List ℕ = c.args.values.now in
-    let vs = values in
+    let i = c.loop-a.a-index in
+    let fours : c.as_chunks.result.0.now ≡ first_chunks 4 (length values / 4) values = c.as_chunks.ensures.front in
+    let four = ap (λ (l : List (List ℕ)). get_or l i []) fours in
     λ z.
     omega (
       arith,
-      all vs c.loop-i.first c.loop-i.second c.loop-i.third c.loop-i.fourth (length vs % 4) (length vs / 4) c.loop-i.i (omega arith) (omega arith) c.loop-i.invariant.2 c.loop-i.invariant.3 c.loop-i.invariant.4 c.loop-i.invariant.5 z,
-      tally-le z vs,
+      c.loop-a.invariant z,
+      c.count.ensures z,
+      c.count-in-loop-a.ensures z,
+      c.count-in-loop-a-2.ensures z,
+      c.count-in-loop-a-3.ensures z,
+      tally-chunk z values _ (length values / 4) i (omega arith) (omega arith) four,
     )
 
+-- where all fours are passed, so are all values
+all : (z : ℕ) (vs : List ℕ) (counts : Counts) (i : ℕ) → i ≡ length vs / 4 → counted counts z ≡ tally z (drop (length vs / 4 * 4) vs) + tally z (take (i * 4) vs) → counted counts z ≡ tally z vs
+all z vs counts i e h = omega (arith, rw e at h, tally-apart z (length vs / 4 * 4) vs)
+
+pub sums-requires : goal.sums-requires
+sums-requires c = λ z. omega (arith, all z c.args.values.now c.loop-a.counts c.loop-a.a-index (omega arith) (c.loop-a.invariant z), tally-le z c.args.values.now)
+
 pub returns : goal.returns
-returns c =
-    let values : List ℕ = c.args.values.now in
-    let vs = values in
-    c.sums.ensures vs (record {
-      each = all vs c.loop-i.first c.loop-i.second c.loop-i.third c.loop-i.fourth (length vs % 4) (length vs / 4) c.loop-i.i (omega arith) (omega arith) c.loop-i.invariant.2 c.loop-i.invariant.3 c.loop-i.invariant.4 c.loop-i.invariant.5;
-      within = λ j. (c.type_inv.values j).fits;
-    })
+returns c = c.sums.ensures c.args.values.now (record {
+  each = λ z. all z c.args.values.now c.loop-a.counts c.loop-a.a-index (omega arith) (c.loop-a.invariant z);
+  within = λ j. (c.type_inv.values j).fits;
+})

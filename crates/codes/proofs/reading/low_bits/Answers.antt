@@ -4,8 +4,5 @@ use lib.Bits.{and_mask}
 use Rattle.codes.proofs.Words.{one_shl}
 use Rattle.codes.proofs.reading.low_bits.Goals as goal
 
-pub overflow_sub-result : goal.overflow_sub-result
-overflow_sub-result c = rw (one_shl c.args.w c.requires) (pow_pos c.args.w)
-
 pub returns : goal.returns
 returns c = rw (one_shl c.args.w c.requires, and_mask c.args.x c.args.w) (mod-lt c.args.x (pow_pos c.args.w), refl)

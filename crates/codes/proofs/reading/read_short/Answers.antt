@@ -1,5 +1,5 @@
 -- The w bits lie in the 4 bytes from `first` on; the shift drops those after them, and the w lowest that are left spell the number.
-use Rattle.std.proofs.Common.{◌≡◌, ℕ, ◌+◌, ◌-◌, ◌*◌, ◌≤◌, sym, ◌∙◌, arith, pow_mono}
+use Rattle.std.proofs.Common.{◌≡◌, ℕ, ◌+◌, ◌-◌, ◌*◌, ◌≤◌, sym, ◌∙◌, arith}
 use Rattle.codes.proofs.Words.{read-part}
 use Rattle.codes.proofs.reading.read_short.Goals as goal
 
@@ -7,15 +7,10 @@ use Rattle.codes.proofs.reading.read_short.Goals as goal
 after : (at w first : ℕ) → first * 8 ≤ at → at + w ≤ first * 8 + 32 → at + w + (32 - (at - first * 8) - w) ≡ (first + 4) * 8
 after at w first l h = omega arith
 
-pub overflow_cast-result : goal.overflow_cast-result
-overflow_cast-result c =
-    let h : c.args.w ≤ 32 = omega arith in
-    omega (arith, c.low_bits.ensures.0, pow_mono h)
-
 pub returns : goal.returns
 returns c =
-    let first = c.least-first.result in
+    let first = c.min-first.result in
     let l : first * 8 ≤ c.args.at = omega arith in
     let h : c.args.at + c.args.w ≤ first * 8 + 32 = omega arith in
     let law = read-part c.args.part.now c.args.at c.args.w first 4 _ l (after c.args.at c.args.w first l h) (omega arith) in
-    c.low_bits.ensures.1 ∙ rw c.four_bytes.ensures (sym law)
+    c.low_bits.ensures.1 ∙ rw (c.from.ensures, c.four_bytes.ensures) (sym law)

@@ -17,7 +17,7 @@ returns-then-end-lt8 c =
 
 pub returns : goal.returns
 returns c =
-    let first = c.least-first.result in
+    let first = c.min-first.result in
     let l : first * 8 ≤ c.args.at = omega arith in
     let h : c.args.at + c.args.w ≤ first * 8 + 64 = omega arith in
     rw c.word_at.ensures (sym (read-part c.args.part.now c.args.at c.args.w first 8 _ l (after c.args.at c.args.w first l h) (omega arith)))

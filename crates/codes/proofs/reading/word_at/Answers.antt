@@ -1,10 +1,22 @@
--- The first 32 bits, times 2^32, and the 32 bits after them spell the number of all 64 (`number_more`).
-use Rattle.std.proofs.Common.{◌≡◌, ◌+◌, ◌*◌, arith}
-use Rattle.codes.proofs.Words.{number_more}
+-- Eight bytes from the highest on make what their bits spell (`number-bytes`).
+use Rattle.std.proofs.Common.{ℕ, ◌<◌, arith}
+use Rattle.codes.proofs.Words.{entry-there, number-bytes}
 use Rattle.codes.proofs.reading.word_at.Goals as goal
 
 pub returns : goal.returns
 returns c =
-    let e : c.args.first * 8 + 32 ≡ (c.args.first + 4) * 8 = omega arith in
-    let more = rw e at (number_more c.args.part.now (c.args.first * 8) 32 32 (omega arith)) in
-    rw more (omega arith)
+    let at = λ (j : ℕ) (h : j < 8). entry-there c.args.part.now c.bytes_at.result 8 c.args.first j c.bytes_at.ensures h in
+    let spelled = number-bytes 8 c.args.part.now c.args.first (omega arith) (λ i. (c.type_inv.part i).fits) in
+    omega (
+      arith,
+      c.from_be_bytes.ensures,
+      spelled,
+      at 0 (omega arith),
+      at 1 (omega arith),
+      at 2 (omega arith),
+      at 3 (omega arith),
+      at 4 (omega arith),
+      at 5 (omega arith),
+      at 6 (omega arith),
+      at 7 (omega arith),
+    )
