@@ -1,7 +1,8 @@
 -- Bits and the numbers that they spell.
 use Rattle.std.proofs.Common.{◌≡◌, ℕ, zero, suc, ◌+◌, ◌*◌, ◌/◌, ◌%◌, ◌^◌, ◌<◌, ◌≤◌, List, [], ◌∷◌, ◌++◌, length, get_or, take, drop, replicate, sym, refl, ap, ◌∙◌, append_assoc, lt_of_lt_of_le, le_of_suc-le-suc, not-suc-le-zero, mod-eq_of_lt, add_comm, suc-add, pow-suc, zero-add, zero-mul, one-add, arith, length-append, length-drop, take-append-drop, length-take, length-take-le, get_or-drop, drop-drop, take_at, ext_get_or, take-add, drop_at, pow_pos, pow_mono, pow-add, shr-shr}
+use Rattle.std.proofs.lemmas.Nat.{mod-pow-add}
 use native.Mathlib.Nat.{mod-one, mul-add-div_right, mul-add-mod_self_right}
-use lib.Pow.{mod-pow-add, high, low, split}
+use lib.Pow.{high, low, split}
 use lib.Arith.{digits_lt}
 use Rattle.codes.specs.Bits.{bits, number, sum, fixed, numbers, bytes_for, padded}
 use Rattle.codes.specs.Codes.{Within}

@@ -1,12 +1,12 @@
 -- Bits written one after the other into bytes, and the padded bytes that they end as.
 use Rattle.std.proofs.Common.{◌≡◌, ℕ, zero, suc, ◌+◌, ◌-◌, ◌*◌, ◌/◌, ◌%◌, ◌^◌, ◌<◌, ◌≤◌, List, [], ◌∷◌, ◌++◌, length, get_or, take, drop, replicate, sym, refl, ap, ◌∙◌, append_assoc, append-nil, add-zero, mod-eq_of_lt, suc-add, zero-add, bit_or, arith, length-append, take-append-drop, length-drop, length-take-le, take_all, take-take, take_at, drop_at}
+use Rattle.std.proofs.lemmas.Nat.{or_shifted, mod-pow-add, shl-shr}
 use Rattle.std.proofs.lemmas.List.{drop-take, take-replicate}
 use Rattle.std.proofs.lemmas.Slice.{take-put_mid, drop-put_mid}
 use borrow.Rule.Slice.PartMut.{put_mid}
 use native.Mathlib.Nat.{mul-mod_left, zero-div}
-use lib.Bits.{or_shifted}
 use lib.Seq.{take-append-add}
-use lib.Pow.{mod-pow-add, mod-mod-pow, high, shl-shr}
+use lib.Pow.{mod-mod-pow, high}
 use Rattle.codes.specs.declared.writing.Writer.{Writer}
 use Rattle.codes.specs.Bits.{bits, fixed, numbers, bytes_of, bits_of, bytes_for, padded}
 use Rattle.codes.specs.Codes.{Within}

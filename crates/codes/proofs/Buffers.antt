@@ -1,6 +1,6 @@
 -- Entries written into a buffer one after the other, and the laws of lists that the layers above cite.
 use Rattle.std.proofs.Common.{◌≡◌, ℕ, ◌+◌, ◌-◌, ◌<◌, ◌≤◌, List, [], ◌∷◌, ◌++◌, length, take, drop, set, ap, ◌∙◌, append_assoc, append-nil, add-zero, arith, length-append, length-drop, take-append-drop, length-take, length-take-le, drop-drop, take_at, drop_at}
-use lib.Seq.{sets-eq}
+use Rattle.std.proofs.lemmas.List.Edits.{sets-eq}
 use Rattle.codes.specs.Lists.{replaced}
 use Rattle.codes.specs.Promises.{ListLaws}
 use Rattle.codes.proofs.Lists.{same_lists, same_itself}

@@ -1,8 +1,8 @@
 -- The size of a chunked code, layer by layer and by the chunks of its values.
 use Rattle.std.proofs.Common.{◌≡◌, ℕ, zero, suc, ◌+◌, ◌-◌, ◌*◌, ◌/◌, ◌^◌, ◌<◌, ◌≤◌, Bool, true, false, cond, eqb, List, [], ◌∷◌, map, length, refl, div-lt_iff_lt-mul, le-div_iff_mul-le, arith, length-append, eqb-true}
+use Rattle.std.proofs.lemmas.Bool.{eqb-false}
+use Rattle.std.proofs.lemmas.List.{length-map}
 use native.Mathlib.Nat.{add-div_right}
-use lib.ListN.{length-map}
-use borrow.Author.Tests.{eqb-false}
 use Rattle.codes.specs.Bits.{sum}
 use Rattle.codes.specs.Codes.{rest, chunked, Within}
 use Rattle.codes.specs.Choice.{width, chunks}

@@ -1,8 +1,8 @@
 -- What is decoded spells the part again: the bits of a level that is decoded are those that encode writes for its values.
 use Rattle.std.proofs.Common.{◌≡◌, ℕ, zero, suc, ◌+◌, ◌-◌, ◌*◌, ◌/◌, ◌^◌, ◌<◌, ◌≤◌, Bool, true, false, eqb, List, [], ◌∷◌, ◌++◌, map, length, get_or, take, drop, replicate, sym, refl, ap, ◌∙◌, zero-mul, arith, length-append, length-drop, take-append-drop, length-take-le, get_or-drop, drop-drop, ext_get_or, take-add, ne_eqb, eqb-true}
+use Rattle.std.proofs.lemmas.Bool.{eqb-false}
 use lib.Seq.{drop-append_seam}
 use lib.Pow.{high}
-use borrow.Author.Tests.{eqb-false}
 use Rattle.codes.specs.declared.kinds.Kind.{Kind}
 use Rattle.codes.specs.declared.kinds.Kind.TheVariants.{Fixed, Chunked, Refused}
 use Rattle.codes.specs.Lists.{same}

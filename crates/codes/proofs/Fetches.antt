@@ -1,10 +1,11 @@
 -- A fetch by the definitions: a fixed code's value, a layer of a chunked code, and the equation without the number of layers.
-use Rattle.std.proofs.Common.{◌≡◌, ℕ, zero, suc, ◌+◌, ◌*◌, ◌/◌, ◌%◌, ◌^◌, ◌<◌, ◌≤◌, Bool, true, false, cond, eqb, ltb, List, [], ◌∷◌, ◌++◌, map, length, get_or, take, drop, refl, ap, ◌∙◌, append_assoc, le_of_suc-le-suc, not-suc-le-zero, arith, length-append, length-drop, take_at, drop_at, ltb-false, le-ltb, lt-ltb, eqb-true}
+use Rattle.std.proofs.Common.{◌≡◌, ℕ, zero, suc, ◌+◌, ◌*◌, ◌/◌, ◌%◌, ◌^◌, ◌<◌, ◌≤◌, Bool, true, false, cond, eqb, ltb, List, [], ◌∷◌, ◌++◌, map, length, get_or, take, drop, refl, ap, ◌∙◌, append_assoc, le_of_suc-le-suc, not-suc-le-zero, arith, length-append, length-drop, take_at, drop_at, ltb-false, le-ltb, eqb-true, Some, None}
+use Rattle.std.proofs.lemmas.Bool.{eqb-false}
+use Rattle.std.proofs.lemmas.List.{length-map, take-append-le}
 use native.Mathlib.Nat.{zero-div, mod-add-div}
-use native.Mathlib.Decide.{dec_lt}
-use lib.ListN.{length-map, get_or-append, get_or-map}
-use lib.Seq.{take-append-le, drop-append-add}
-use borrow.Author.Tests.{eqb-false}
+use Rattle.std.proofs.lemmas.Option.{none-some, same_Some}
+use lib.ListN.{get_or-append, get_or-map}
+use lib.Seq.{drop-append-add}
 use Rattle.codes.specs.declared.kinds.Kind.{Kind}
 use Rattle.codes.specs.declared.kinds.Kind.TheVariants.{Fixed, Chunked, Refused}
 use Rattle.codes.specs.Bits.{number, sum, fixed, bits_of}
@@ -20,23 +21,23 @@ pub fixed-inside : (w j : ℕ) (bs : List ℕ) → (j + 1) * w ≤ length bs →
 unfolding fixed_at
 fixed-inside w j bs h = rw (le-ltb (length bs) ((j + 1) * w) h)
 
-short-kind : (k : Kind) (count j : ℕ) (bytes : List ℕ) → Inside k j (length bytes) → short_at k j (bits_of bytes) < 2 ^ 32
-    → kind_fetched k count j (bits_of bytes) ≡ value (short_at k j (bits_of bytes))
+short-kind : (k : Kind) (count j v : ℕ) (bytes : List ℕ) → Inside k j (length bytes) → short_at k j (bits_of bytes) ≡ Some v
+    → kind_fetched k count j (bits_of bytes) ≡ value v
 unfolding short_at
-short-kind (Fixed w) count j bytes i h = elim (dec_lt 25 w) [
-  | yes a ↦ absurd (omega (arith, rw (lt-ltb 25 w a) at h))
-  | no a ↦ elim (dec_lt (length (bits_of bytes)) 32) [
-    | yes b ↦ absurd (omega (arith, rw (le-ltb 25 w (omega arith), lt-ltb (length (bits_of bytes)) 32 b) at h))
-    | no b ↦ rw (le-ltb 25 w (omega arith), le-ltb (length (bits_of bytes)) 32 (omega arith)) (fixed-inside w j (bits_of bytes) (rw (length-fixed 8 bytes) i))
-  ]
-]
-short-kind (Chunked b) count j bytes i h = absurd (omega arith)
-short-kind Refused count j bytes i h = absurd (omega arith)
+short-kind (Fixed w) count j v bytes i h =
+    go (ltb 25 w) (ltb (length (bits_of bytes)) 32) h
+  where
+    go : (wide few : Bool) → cond wide None (cond few None (Some (number (take w (drop (j * w) (bits_of bytes)))))) ≡ Some v → fixed_at w j (bits_of bytes) ≡ value v
+    go true few e = absurd (none-some v e)
+    go false true e = absurd (none-some v e)
+    go false false e = fixed-inside w j (bits_of bytes) (rw (length-fixed 8 bytes) i) ∙ ap value (same_Some _ v e)
+short-kind (Chunked b) count j v bytes i h = absurd (none-some v h)
+short-kind Refused count j v bytes i h = absurd (none-some v h)
 
 -- a short fetch that says something
 pub short-fetched : ShortFetches
 unfolding fetched
-short-fetched code count j bytes i h = short-kind (kind_of code) count j bytes i h
+short-fetched code count j v bytes i h = short-kind (kind_of code) count j v bytes i h
 
 -- ---- chunked codes, without the number of layers
 

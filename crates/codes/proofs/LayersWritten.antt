@@ -1,9 +1,7 @@
 -- One layer of the chunked code as it is written: its continuation bits, its chunks, and what is left of the values after it.
 use Rattle.std.proofs.Common.{◌≡◌, ℕ, ◌+◌, ◌*◌, ◌/◌, ◌%◌, ◌^◌, ◌<◌, ◌≤◌, Bool, true, false, cond, eqb, List, [], ◌∷◌, ◌++◌, map, length, get_or, take, drop, set, sym, refl, append_assoc, append-nil, le_trans, le_refl, add-zero, mul-le-mul_left, div-mul-le_self, add-one, arith, length-append, length-take-le, take-suc, take-suc-set, take-add, pow_mono}
-use lib.ListN.{length-map}
-use lib.Seq.{take-set-le}
-use borrow.Author.Tests.{eqb-false}
-use Rattle.std.proofs.lemmas.List.{map_more}
+use Rattle.std.proofs.lemmas.Bool.{eqb-false}
+use Rattle.std.proofs.lemmas.List.{map_more, length-map, take-set-le}
 use Rattle.codes.specs.Bits.{bits, number, sum, fixed}
 use Rattle.codes.specs.Codes.{continuation, rest, chunked, Within}
 use Rattle.codes.proofs.Bits.{length-bits, length-fixed, number_append, number-bits, fixed-append}

@@ -1,7 +1,7 @@
 -- Lists that agree from one place on, lists whose first entries are known, lists of zeros, and the test whether two lists are the same.
 use Rattle.std.proofs.Common.{◌≡◌, ℕ, zero, suc, ◌+◌, ◌-◌, ◌<◌, ◌≤◌, Bool, true, false, eqb, List, [], ◌∷◌, length, get_or, take, drop, set, replicate, sym, refl, ap, ◌∙◌, true≢false, add-zero, arith, get_or-drop, get_or-set_other, get_or-set_same, drop-drop, eq-eqb, eqb-true}
+use Rattle.std.proofs.lemmas.Bool.{eqb-false}
 use mathlib.Core.Bool.{and-eq-true_iff}
-use borrow.Author.Tests.{eqb-false}
 use Rattle.codes.specs.Lists.{same}
 
 module _ {ℓ} {A : Type ℓ} (xs ys : List A) (n : ℕ) (e : drop n xs ≡ drop n ys) where

@@ -1,9 +1,8 @@
--- Marks: one is counted on, one is kept, and zeros are marks of any part.
-use Rattle.std.proofs.Common.{◌≡◌, ℕ, ◌+◌, ◌-◌, ◌*◌, ◌<◌, ◌≤◌, Bool, true, false, eqb, List, length, get_or, take, drop, set, refl, ◌∙◌, arith, length-set, get_or-set_other, get_or-set_same, eqb-true}
-use borrow.Author.Tests.{eqb-false}
+-- Marks: one is counted on, and those of no bits are marks of any part.
+use Rattle.std.proofs.Common.{◌≡◌, ℕ, ◌+◌, ◌-◌, ◌≤◌, List, get_or, take, drop, refl, arith}
 use Rattle.codes.specs.declared.marking.Mark.{Mark}
 use Rattle.codes.specs.Bits.{sum, bits_of}
-use Rattle.codes.specs.Marks.{Counted, mark_at, Marks}
+use Rattle.codes.specs.Marks.{Counted, none, Marks}
 use Rattle.codes.proofs.Words.{ones-more, sum-part-le}
 
 -- a mark has no more ones than bits
@@ -19,48 +18,6 @@ counted-on bytes m to r c h e =
     let end : m.from + (m.to - m.from) ≡ m.to = omega arith in
     record { in_order = omega arith; ones_are = rw (parts, ones-more bytes m.from (m.to - m.from) (to - m.to), end, c.ones_are, e) }
 
--- one mark more that is true, in the place of mark k
-pub marks-kept : {bytes ms : List ℕ} (k : ℕ) (m : Mark) → Marks bytes ms → k * 3 + 3 ≤ length ms → Counted (bits_of bytes) m
-    → Marks bytes (set (set (set ms (k * 3) m.from) (k * 3 + 1) m.to) (k * 3 + 2) m.ones)
-marks-kept {bytes} {ms} k m old h t = record { counted = λ j l. go j (eqb j k) refl (rw (length-set two (i + 2) m.ones, length-set one (i + 1) m.to, length-set ms i m.from) at l) }
-  where
-    i : ℕ
-    i = k * 3
-
-    one : List ℕ
-    one = set ms i m.from
-
-    two : List ℕ
-    two = set one (i + 1) m.to
-
-    new : List ℕ
-    new = set two (i + 2) m.ones
-
-    from_is : get_or new i 0 ≡ m.from
-    from_is =
-        get_or-set_other two (i + 2) i m.ones 0 (λ e. omega arith)
-        ∙ get_or-set_other one (i + 1) i m.to 0 (λ e. omega arith) ∙ get_or-set_same ms i m.from 0 (omega arith)
-
-    to_is : get_or new (i + 1) 0 ≡ m.to
-    to_is =
-        get_or-set_other two (i + 2) (i + 1) m.ones 0 (λ e. omega arith)
-        ∙ get_or-set_same one (i + 1) m.to 0 (simp length-set (omega arith))
-
-    ones_are : get_or new (i + 2) 0 ≡ m.ones
-    ones_are = get_or-set_same two (i + 2) m.ones 0 (simp length-set (omega arith))
-
-    other : (j : ℕ) → (i ≤ j → j < i + 3 → ⊥) → get_or new j 0 ≡ get_or ms j 0
-    other j o =
-        get_or-set_other two (i + 2) j m.ones 0 (λ e. o (omega arith) (omega arith))
-        ∙ get_or-set_other one (i + 1) j m.to 0 (λ e. o (omega arith) (omega arith))
-        ∙ get_or-set_other ms i j m.from 0 (λ e. o (omega arith) (omega arith))
-
-    go : (j : ℕ) (same : Bool) → eqb j k ≡ same → j * 3 + 3 ≤ length ms → Counted (bits_of bytes) (mark_at new j)
-    go j true e l = rw (eqb-true j k e, from_is, to_is, ones_are) t
-    go j false e l =
-        let n = eqb-false j k e in
-        rw (other (j * 3) (λ p q. n (omega arith)), other (j * 3 + 1) (λ p q. n (omega arith)), other (j * 3 + 2) (λ p q. n (omega arith))) (old.counted j l)
-
-pub marks-zero : (bytes ms : List ℕ) → ((j : ℕ) → get_or ms j 0 ≡ 0) → Marks bytes ms
+pub marks-none : (bytes : List ℕ) (ms : List Mark) → ((k : ℕ) → get_or ms k none ≡ none) → Marks bytes ms
 unfolding sum
-marks-zero bytes ms h = record { counted = λ k l. rw (h (k * 3), h (k * 3 + 1), h (k * 3 + 2)) (record { in_order = omega arith; ones_are = refl }) }
+marks-none bytes ms h = record { counted = λ k l. rw (h k) (record { in_order = omega arith; ones_are = refl }) }

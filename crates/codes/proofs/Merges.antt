@@ -1,9 +1,8 @@
 -- A layer merged with the layers after it, from the last value to the first, and values that leave room for more bits.
-use Rattle.std.proofs.Common.{◌≡◌, ℕ, zero, suc, ◌+◌, ◌-◌, ◌*◌, ◌^◌, ◌<◌, ◌≤◌, Bool, true, false, ◌&&◌, eqb, ltb, List, [], ◌∷◌, length, get_or, take, drop, set, sym, refl, ap, ◌∙◌, le_of_suc-le-suc, not-suc-le-zero, zero-mul, arith, length-drop, length-take-le, get_or-drop, get_or-set_other, get_or-take, get_or-set_same, drop-drop, ext_get_or, ltb-true, eqb-true}
+use Rattle.std.proofs.Common.{◌≡◌, ℕ, zero, suc, ◌+◌, ◌-◌, ◌*◌, ◌^◌, ◌<◌, ◌≤◌, Bool, true, false, ◌&&◌, eqb, ltb, List, [], ◌∷◌, length, get_or, take, drop, set, sym, refl, ap, ◌∙◌, le_of_suc-le-suc, not-suc-le-zero, zero-mul, arith, length-drop, length-take-le, get_or-drop, get_or-set_other, get_or-set_same, drop-drop, ext_get_or, ltb-true, eqb-true}
+use Rattle.std.proofs.lemmas.Bool.{eqb-false}
 use mathlib.Core.Bool.{and-eq-true_iff}
 use Rattle.std.proofs.lemmas.List.Recursion.{and_at}
-use lib.Seq.{take-length}
-use borrow.Author.Tests.{eqb-false}
 use Rattle.codes.specs.Bits.{number, sum, bits_of}
 use Rattle.codes.specs.Codes.{Within}
 use Rattle.codes.specs.Decode.{merged, from_one}
@@ -31,14 +30,6 @@ merged-at b (m ∷ ms) bs rests (suc j) h =
 
 pub length-continuations : (bytes : List ℕ) (at n : ℕ) → at + n ≤ length bytes * 8 → length (continuations_at bytes at n) ≡ n
 length-continuations bytes at n h = length-take-le n (drop at (bits_of bytes)) (simp (length-drop, length-fixed) (omega arith))
-
-pub merging-first : (b : ℕ) (ms bs vs : List ℕ) (rests : ℕ) → rests ≡ sum ms → Merging b ms bs (take rests vs) vs (length ms) rests
-merging-first b ms bs vs rests e =
-    record {
-      ones = e ∙ ap sum (sym (take-length ms));
-      unused = λ q h. sym (get_or-take rests vs q 0 h);
-      done = λ q l h. absurd (omega arith);
-    }
 
 -- what is left of the rests after value i
 pub left : (ms : List ℕ) (i kept : ℕ) → i < length ms → kept ≡ sum (take (suc i) ms) → (kept - get_or ms i 0 ≡ sum (take i ms)) × (get_or ms i 0 ≤ kept)

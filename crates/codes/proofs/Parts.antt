@@ -1,9 +1,9 @@
 -- A fetch from the part of a level, with anything after it, gives each value back, and decoding all of them.
 use Rattle.std.proofs.Common.{◌≡◌, ℕ, zero, suc, ◌+◌, ◌-◌, ◌*◌, ◌/◌, ◌%◌, ◌^◌, ◌<◌, ◌≤◌, Bool, true, false, cond, eqb, List, [], ◌∷◌, ◌++◌, map, length, get_or, take, drop, replicate, sym, refl, ap, ◌∙◌, append_assoc, append-nil, mul-le-mul_right, arith, length-append, take_at, drop_at, shr_lt, lt-ltb, eqb-true}
+use Rattle.std.proofs.lemmas.Bool.{eqb-false}
+use Rattle.std.proofs.lemmas.List.{length-map}
 use native.Mathlib.Nat.{mod-add-div}
-use lib.ListN.{length-map}
 use lib.Seq.{take-append-add, drop-append-add}
-use borrow.Author.Tests.{eqb-false}
 use Rattle.codes.specs.declared.kinds.Kind.{Kind}
 use Rattle.codes.specs.declared.kinds.Kind.TheVariants.{Fixed, Chunked, Refused}
 use Rattle.codes.specs.Bits.{bits, fixed, bytes_for, padded, bits_of}

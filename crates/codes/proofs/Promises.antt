@@ -13,7 +13,7 @@ use Rattle.codes.proofs.DecodedParts.{part-spelled}
 use Rattle.codes.proofs.Decodes.{decoded-fetched}
 use Rattle.codes.proofs.ExactParts.{exact-told}
 use Rattle.codes.proofs.Fetches.{short-fetched}
-use Rattle.codes.proofs.Marks.{marks-zero}
+use Rattle.codes.proofs.Marks.{marks-none}
 use Rattle.codes.proofs.Parts.{part-back, part-decoded}
 use Rattle.codes.proofs.Widths.{width-holds, width-least}
 
@@ -62,7 +62,7 @@ pub short-fetches : ShortFetches
 short-fetches = short-fetched
 
 pub zero-marks : ZeroMarks
-zero-marks = marks-zero
+zero-marks = marks-none
 
 pub list-laws : ListLaws
 list-laws = buffer-laws

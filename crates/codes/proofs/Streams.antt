@@ -1,6 +1,6 @@
 -- Ones of words that are added up, and of words in streams.
-use Rattle.std.proofs.Common.{◌≡◌, ℕ, zero, suc, ◌+◌, ◌*◌, ◌/◌, ◌%◌, ◌^◌, ◌<◌, List, take, drop, refl, add-zero, add-suc, one-mul, zero-mul, arith}
-use lib.Bits.{bit_and, bit_or, bit_xor, and_shr, or_shr, xor_shr, and_mod, or_mod, xor_mod}
+use Rattle.std.proofs.Common.{◌≡◌, ℕ, zero, suc, ◌+◌, ◌*◌, ◌/◌, ◌%◌, ◌^◌, ◌<◌, List, take, drop, refl, add-zero, add-suc, one-mul, zero-mul, arith, bit_and, bit_or, bit_xor}
+use Rattle.std.proofs.lemmas.Nat.{and_shr, or_shr, xor_shr, and_mod, or_mod, xor_mod}
 use lib.Count.{ones, ones_step}
 use Rattle.codes.specs.Bits.{sum, bits_of}
 use Rattle.codes.specs.Streams.{in_streams}

@@ -1,8 +1,8 @@
 -- How many values have how many zero bits above their highest one bit, and how many have more bits than a width.
 use Rattle.std.proofs.Common.{◌≡◌, ℕ, zero, suc, ◌+◌, ◌-◌, ◌*◌, ◌/◌, ◌^◌, ◌<◌, ◌≤◌, Bool, true, false, cond, eqb, ltb, List, [], ◌∷◌, ◌++◌, length, get_or, take, drop, set, sym, refl, ap, ◌∙◌, le_trans, add-one, arith, length-drop, take-append-drop, length-take, get_or-set_other, take-suc, get_or-set_same, drop-drop, pow_pos, shr-shr, ltb-false, ltb-true, eq-eqb, ne_eqb, eqb-true, not, Some, None, unwrap_or, zero-mul, take-add, length-take-le}
+use Rattle.std.proofs.lemmas.Bool.{eqb-false}
 use native.Mathlib.Nat.{zero-div}
 use lib.ListN.{get_or-eq_default}
-use borrow.Author.Tests.{eqb-false}
 use Rattle.std.specs.List.{position, position_or_len}
 use Rattle.std.proofs.lemmas.List.Sums.{prefix_len_is}
 use Rattle.std.specs.Simd.{first_chunks}

@@ -1,8 +1,8 @@
 -- Widths: the bits of a value up to its highest one bit, and the least width that holds every value.
 use Rattle.std.proofs.Common.{◌≡◌, ℕ, zero, suc, ◌+◌, ◌-◌, ◌/◌, ◌^◌, ◌<◌, ◌≤◌, List, [], ◌∷◌, refl, lt_of_lt_of_le, lt_of_le_of_lt, div-lt_iff_lt-mul, le_antisymm, lt_of_not-le, arith, pow_pos, pow_mono, pow-add, shr_lt, ne_eqb}
+use Rattle.std.proofs.lemmas.Nat.{shr_le}
 use native.Mathlib.Nat.{le-max_left, le-max_right, div-eq_of_lt}
 use lib.Count.{count_leading_zeros}
-use lib.Pow.{shr_le}
 use Rattle.codes.specs.Codes.{Within}
 use Rattle.codes.specs.Choice.{width_in, width, widest}
 

@@ -1,8 +1,10 @@
 -- Bits of a part, read by bytes and counted by words.
 use Rattle.std.proofs.Common.{◌≡◌, ℕ, zero, suc, ◌+◌, ◌-◌, ◌*◌, ◌/◌, ◌%◌, ◌^◌, ◌<◌, ◌≤◌, List, [], ◌∷◌, length, get_or, take, drop, sym, get_or-take, get_or-drop, refl, ◌∙◌, append-nil, one-mul, div-one, add-one, arith, length-drop, length-take-le, take_all, take-take, drop-drop, take-add, pow-add, shl_exact}
+use Rattle.std.proofs.lemmas.Nat.{ones_cat}
 use lib.Arith.{digits_lt}
-use lib.Count.{ones, ones_cat}
+use lib.Count.{ones}
 use lib.Pow.{low, high, field, mod-mod-pow}
+use Rattle.std.proofs.lemmas.List.{drop-take}
 use Rattle.codes.specs.Bits.{number, sum, bits_of, bytes_for}
 use Rattle.codes.specs.Codes.{Within}
 use Rattle.codes.proofs.Bits.{within-take, within-drop, bits-fixed, length-fixed, fixed-fetch, number_append, number_lt, number-part, number-take-lt, sum-take-add, sum-le}
@@ -63,10 +65,7 @@ last-number bytes at j w h =
     rw (e, number_more bytes at (j * w) w h) (low (number (take (j * w) (from bytes at))) w l, high (number (take (j * w) (from bytes at))) w l)
 
 take-drop-take : (w s m : ℕ) (l : List ℕ) → s + w ≤ m → take w (drop s (take m l)) ≡ take w (drop s l)
-take-drop-take w zero m l h = take-take w m l (omega arith)
-take-drop-take w (suc s) zero l h = absurd (omega arith)
-take-drop-take w (suc s) (suc m) [] h = refl
-take-drop-take w (suc s) (suc m) (x ∷ l) h = take-drop-take w s m l (omega arith)
+take-drop-take w s m l h = let e : s + (m - s) ≡ m = omega arith in rw (← e, drop-take s (m - s) l, take-take w (m - s) (drop s l) (omega arith))
 
 -- w bits from bit `at + p` on, of which x has the r after them too, and as many before them as from bit `at` on
 pub bits-within : (bytes : List ℕ) (at p w r x : ℕ) → at + p + w + r ≤ length bytes * 8 → x % 2 ^ (p + w + r) ≡ number (take (p + w + r) (from bytes at))

@@ -1,10 +1,8 @@
 -- A fetch: value j of a level of count values, from the level's part alone.
-use Rattle.std.specs.Prelude.{◌≡◌, ℕ, zero, suc, ◌+◌, ◌*◌, ◌^◌, ◌≤◌, cond, List, length, take, drop, ◌==◌, nat_lt, slice_index}
+use Rattle.std.specs.Prelude.{◌≡◌, ℕ, zero, suc, ◌+◌, ◌*◌, ◌^◌, ◌≤◌, cond, List, length, take, drop, ◌==◌, nat_lt, slice_index, Option, Some, None}
 use Rattle.codes.specs.declared.kinds.Kind.{Kind}
 use Rattle.codes.specs.declared.kinds.Kind.TheVariants.{Fixed, Chunked, Refused}
 use Rattle.codes.specs.declared.fetching.Layer.{Layer}
-use Rattle.codes.specs.declared.fetching.Found.{Found}
-use Rattle.codes.specs.declared.fetching.Found.TheVariants.{Value, Outside}
 use Rattle.codes.specs.Bits.{number, sum, bits_of}
 use Rattle.codes.specs.Codes.{kind_of}
 
@@ -14,9 +12,9 @@ pub data Fetched : Type 0 where
   outside : Fetched
 
 -- the answer of the code
-abbrev pub found : Found → Fetched
-found (Value v) = value v
-found Outside = outside
+abbrev pub found : Option ℕ → Fetched
+found (Some v) = value v
+found None = outside
 
 -- fixed: the value's bits must lie in the part
 unfoldable pub fixed_at : ℕ → ℕ → List ℕ → Fetched
@@ -63,13 +61,13 @@ Inside Refused j bytes = Unit {0}
 
 -- ---- a short fetch
 
--- A fixed value of at most 25 bits in a part of 4 bytes or more; of any other nothing is said, by 2 ^ 32, which is no value.
-unfoldable pub short_at : Kind → ℕ → List ℕ → ℕ
-short_at (Fixed w) j bs = cond (nat_lt 25 w) (2 ^ 32) (cond (nat_lt (length bs) 32) (2 ^ 32) (number (take w (drop (j * w) bs))))
-short_at (Chunked b) j bs = 2 ^ 32
-short_at Refused j bs = 2 ^ 32
+-- A fixed value of at most 25 bits in a part of 4 bytes or more; of any other nothing is said.
+unfoldable pub short_at : Kind → ℕ → List ℕ → Option ℕ
+short_at (Fixed w) j bs = cond (nat_lt 25 w) None (cond (nat_lt (length bs) 32) None (Some (number (take w (drop (j * w) bs)))))
+short_at (Chunked b) j bs = None
+short_at Refused j bs = None
 
-abbrev pub short_fetched : ℕ → ℕ → List ℕ → ℕ
+abbrev pub short_fetched : ℕ → ℕ → List ℕ → Option ℕ
 short_fetched code j bytes = short_at (kind_of code) j (bits_of bytes)
 
 -- ---- the next layer, cited by a private function alone
@@ -79,3 +77,4 @@ pub record NextLayer (b : ℕ) (bs : List ℕ) (l r : Layer) : Type 0 where
   pub begins : r.at ≡ l.at + l.count + l.count * b
   pub count_is : r.count ≡ sum (take l.count (drop l.at bs))
   pub index_is : r.index ≡ sum (take l.index (drop l.at bs))
+  pub mark_is : r.mark ≡ l.mark + 2

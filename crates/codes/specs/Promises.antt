@@ -1,7 +1,7 @@
 -- What is shown of the level codes besides each function's contract. proofs/Promises proves each, as
 -- `round_trip`, `lengths`, `best-choice`, `code-known`, `least-width`, `decode-fetches`, `decode-back`, `decoded-part`, `chosen-parts`, `exact-parts`,
 -- `short-fetches`, `zero-marks` and `list-laws`.
-use Rattle.std.specs.Prelude.{◌≡◌, ℕ, ◌+◌, ◌*◌, ◌^◌, ◌<◌, ◌≤◌, true, List, [], ◌∷◌, ◌++◌, map, length, slice_index, slice_set}
+use Rattle.std.specs.Prelude.{◌≡◌, ℕ, ◌+◌, ◌*◌, ◌^◌, ◌<◌, ◌≤◌, true, List, [], ◌∷◌, ◌++◌, map, length, get_or, slice_index, slice_set, Some}
 use Rattle.codes.specs.declared.kinds.Kind.{Kind}
 use Rattle.codes.specs.declared.kinds.Kind.TheVariants.{Fixed, Chunked, Refused}
 use Rattle.codes.specs.Lists.{same, replaced, filled_to}
@@ -9,7 +9,8 @@ use Rattle.codes.specs.Bits.{sum, bits_of, bytes_for}
 use Rattle.codes.specs.Codes.{kind_of, part, is_exact, Within, Holds}
 use Rattle.codes.specs.Choice.{width_in, chunks, size, chosen, is_chosen}
 use Rattle.codes.specs.Fetch.{value, outside, fetched, Inside, short_fetched}
-use Rattle.codes.specs.Marks.{Marks}
+use Rattle.codes.specs.declared.marking.Mark.{Mark}
+use Rattle.codes.specs.Marks.{none, Marks}
 use Rattle.codes.specs.Decode.{all, decoded}
 
 -- 1. By any code that holds the values, a fetch from their part, followed by any bytes or none, gives each value back.
@@ -80,12 +81,12 @@ pub record ExactParts : Type 0 where
 
 -- 11. A short fetch that says something says what any fetch finds, however many values there are.
 abbrev pub ShortFetches : Type 0
-ShortFetches = (code count j : ℕ) (bytes : List ℕ) → Inside (kind_of code) j (length bytes) → short_fetched code j bytes < 2 ^ 32
-    → fetched code count j bytes ≡ value (short_fetched code j bytes)
+ShortFetches = (code count j v : ℕ) (bytes : List ℕ) → Inside (kind_of code) j (length bytes) → short_fetched code j bytes ≡ Some v
+    → fetched code count j bytes ≡ value v
 
--- 12. Entries that are all 0 are marks of any part.
+-- 12. Marks of no bits are true of any part.
 abbrev pub ZeroMarks : Type 0
-ZeroMarks = (bytes ms : List ℕ) → ((j : ℕ) → slice_index ms j ≡ 0) → Marks bytes ms
+ZeroMarks = (bytes : List ℕ) (ms : List Mark) → ((k : ℕ) → get_or ms k none ≡ none) → Marks bytes ms
 
 -- 13. The laws of lists and buffers that the layers above cite.
 pub record ListLaws : Type 0 where

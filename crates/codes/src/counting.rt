@@ -1,8 +1,9 @@
 // Bits of a part that are 1, counted by 64-bit words.
-ghost use Rattle.std.specs.Prelude.{◌≡◌, ◌+◌, ◌-◌, ◌*◌, ◌%◌, ◌^◌, ◌<◌, ◌≤◌, length, take, drop, count_ones};
+ghost use Rattle.std.specs.Prelude.{◌≡◌, ◌+◌, ◌-◌, ◌*◌, ◌%◌, ◌<◌, ◌≤◌, length, take, drop, count_ones};
 ghost use Rattle.codes.specs.Bits.{sum, bits_of};
 ghost use Rattle.codes.specs.Streams.{in_streams};
 
+use super::part::Part;
 use super::reading::{bytes_at, read};
 
 // How many bits of a word are 1.
@@ -50,20 +51,24 @@ fn add_bits(a: u64, b: u64, c: u64) -> Sum
 }
 
 // Adds to the bits of `a` those of two words, the second `step` bytes after the first.
-fn add_two(part: &[u8], a: u64, first: usize, step: usize) -> Sum
-    requires { (first + step + 8 ≤ length part.now) × (length part.now < 2 ^ 32) }
-    ensures { count_ones result.ones + 2 * count_ones result.twos ≡ count_ones a + in_streams 2 1 part.now first step }
+fn add_two(part: Part<'_>, a: u64, first: usize, step: usize) -> Sum
+    requires { first + step + 8 ≤ length part.bytes.now }
+    ensures { count_ones result.ones + 2 * count_ones result.twos ≡ count_ones a + in_streams 2 1 part.entry.bytes.now first step }
 {
-    add_bits(a, ones_word(part, first), ones_word(part, first + step))
+    add_bits(
+        a,
+        ones_word(part.bytes, first),
+        ones_word(part.bytes, first + step),
+    )
 }
 
 // How many bits are 1 in fifteen words, each `step` bytes after the one before. Added up they are four words to count: a to g add the words,
 // which leaves one word of ones and seven of twos; p to r add the twos, which leaves one of these and three of fours.
-fn ones_in_fifteen(part: &[u8], first: usize, step: usize) -> usize
-    requires { (first + 14 * step + 8 ≤ length part.now) × (length part.now < 2 ^ 32) }
-    ensures { (result ≤ 960) × (result ≡ in_streams 15 1 part.now first step) }
+fn ones_in_fifteen(part: Part<'_>, first: usize, step: usize) -> usize
+    requires { first + 14 * step + 8 ≤ length part.bytes.now }
+    ensures { (result ≤ 960) × (result ≡ in_streams 15 1 part.entry.bytes.now first step) }
 {
-    let a = add_two(part, ones_word(part, first), first + step, step);
+    let a = add_two(part, ones_word(part.bytes, first), first + step, step);
     let b = add_two(part, a.ones, first + 3 * step, step);
     let c = add_two(part, b.ones, first + 5 * step, step);
     let d = add_two(part, c.ones, first + 7 * step, step);
@@ -79,9 +84,9 @@ fn ones_in_fifteen(part: &[u8], first: usize, step: usize) -> usize
 
 // How many bits are 1 in fifteen words for each turn, from byte `first` on. They are fifteen streams, side by side, since the compiler makes
 // wide reads of words that follow each other from turn to turn.
-fn ones_in_streams(part: &[u8], first: usize, turns: usize) -> usize
-    requires { (first + turns * 120 ≤ length part.now) × (length part.now < 2 ^ 32) }
-    ensures { (result ≤ turns * 960) × (result ≡ sum (take (turns * 960) (drop (first * 8) (bits_of part.now)))) }
+fn ones_in_streams(part: Part<'_>, first: usize, turns: usize) -> usize
+    requires { first + turns * 120 ≤ length part.bytes.now }
+    ensures { (result ≤ turns * 960) × (result ≡ sum (take (turns * 960) (drop (first * 8) (bits_of part.entry.bytes.now)))) }
 {
     let step = turns * 8;
     let mut count = 0;
@@ -92,13 +97,13 @@ fn ones_in_streams(part: &[u8], first: usize, turns: usize) -> usize
 }
 
 // How many bits are 1 in the words from byte `first` on, one by one.
-fn ones_in_few(part: &[u8], first: usize, words: usize) -> usize
-    requires { (first + words * 8 ≤ length part.now) × (length part.now < 2 ^ 32) }
-    ensures { (result ≤ words * 64) × (result ≡ sum (take (words * 64) (drop (first * 8) (bits_of part.now)))) }
+fn ones_in_few(part: Part<'_>, first: usize, words: usize) -> usize
+    requires { first + words * 8 ≤ length part.bytes.now }
+    ensures { (result ≤ words * 64) × (result ≡ sum (take (words * 64) (drop (first * 8) (bits_of part.entry.bytes.now)))) }
 {
     let mut count = 0;
     for i in 0..words {
-        count += ones_of(ones_word(part, first + i * 8));
+        count += ones_of(ones_word(part.bytes, first + i * 8));
     }
     count
 }
@@ -106,9 +111,9 @@ fn ones_in_few(part: &[u8], first: usize, words: usize) -> usize
 // How many bits are 1 in the words from byte `first` on: of 30 and more, first those that the streams have in an even number of turns, since
 // a wide read has two turns' words, and then what is left.
 // The words are told by place and number: as slices of the part they take a sweep of chords, or a search, 1.06 times as long.
-fn ones_in_words(part: &[u8], first: usize, words: usize) -> usize
-    requires { (first + words * 8 ≤ length part.now) × (length part.now < 2 ^ 32) }
-    ensures { (result ≤ words * 64) × (result ≡ sum (take (words * 64) (drop (first * 8) (bits_of part.now)))) }
+fn ones_in_words(part: Part<'_>, first: usize, words: usize) -> usize
+    requires { first + words * 8 ≤ length part.bytes.now }
+    ensures { (result ≤ words * 64) × (result ≡ sum (take (words * 64) (drop (first * 8) (bits_of part.entry.bytes.now)))) }
 {
     if words < 30 {
         return ones_in_few(part, first, words);
@@ -119,18 +124,18 @@ fn ones_in_words(part: &[u8], first: usize, words: usize) -> usize
 
 // How many of the bits from `from` up to `to` are 1. Fewer than 58 are counted by one read. Of more, first those up to a whole byte,
 // then whole words, then what is left.
-pub(crate) fn count_ones(part: &[u8], from: usize, to: usize) -> usize
-    requires { (from ≤ to) × (to ≤ length part.now * 8) × (length part.now < 2 ^ 32) }
-    ensures { (result ≤ to - from) × (result ≡ sum (take (to - from) (drop from (bits_of part.now)))) }
+pub(crate) fn count_ones(part: Part<'_>, from: usize, to: usize) -> usize
+    requires { (from ≤ to) × (to ≤ length part.bytes.now * 8) }
+    ensures { (result ≤ to - from) × (result ≡ sum (take (to - from) (drop from (bits_of part.entry.bytes.now)))) }
 {
     if to - from < 58 {
-        return ones_at(part, from, to - from);
+        return ones_at(part.bytes, from, to - from);
     }
     let head = 7 - (from + 7) % 8;
     let start = from + head;
     let words = (to - start) / 64;
     let tail = start + words * 64;
-    ones_at(part, from, head)
+    ones_at(part.bytes, from, head)
         + ones_in_words(part, start / 8, words)
-        + ones_at(part, tail, to - tail)
+        + ones_at(part.bytes, tail, to - tail)
 }

@@ -1,4 +1,5 @@
-// All values of a level at once, from the level's part alone.
+// All values of a level at once, from the level's part alone. Values and part are passed side by side: a struct that borrowed the values would
+// have to promise at each step that they are still the same buffer.
 ghost use Rattle.std.specs.Prelude.{◌≡◌, ℕ, ◌+◌, ◌-◌, ◌*◌, ◌%◌, ◌^◌, ◌<◌, ◌≤◌, List, length, take, drop};
 ghost use Rattle.codes.specs.Bits.{number, sum, bits_of};
 ghost use Rattle.codes.specs.Decode.{merged, from_one, decoded_layers, kind_decoded, decoded, is_decoded, decoded_or0};
@@ -6,8 +7,9 @@ ghost use Rattle.codes.specs.Merging.{InPart, FixedTo, continuations_at, chunks_
 ghost use Rattle.codes.specs.declared.kinds.Kind.TheVariants.{Fixed};
 
 use super::counting::count_ones;
-use super::kinds::{Kind, kind_of};
+use super::kinds::Kind;
 use super::layering::Radix;
+use super::part::Part;
 use super::reading::{low_bits, read, read_word};
 
 // A value of 32 bits has at most 32 chunks.
@@ -24,7 +26,7 @@ fn put_group<const K: usize>(values: &mut [u32], w: usize, i: usize, x: u64)
     }
 }
 
-// The values from value `from` on in groups of `K`, where one read has a group: all but the last few. Gives how many are written.
+// The values from value `from` on in groups of `K`, where one read has a group: all but the last few. Gives up to where values are written.
 fn decode_by<const K: usize>(values: &mut [u32], part: &[u8], w: usize, from: usize) -> usize
     requires { (1 ≤ K) × (K ≤ 4) × InPart w (length values.old) part.now × (from ≤ length values.old) × FixedTo w part.now values.old from }
     ensures { (result ≤ length values.old) × (K * w ≤ 56 → length values.old < result + K) × FixedTo w part.now values.new result }
@@ -42,20 +44,20 @@ fn decode_by<const K: usize>(values: &mut [u32], part: &[u8], w: usize, from: us
 }
 
 // The values of a fixed code of width `w`.
-fn decode_fixed(values: &mut [u32], part: &[u8], w: usize) -> Option<()>
-    requires { (w ≤ 32) × (length values.old < 2 ^ 32) × (length part.now < 2 ^ 32) }
-    ensures { Says (kind_decoded (Fixed w) (length values.old) (bits_of part.now)) result values.new }
+fn decode_fixed(values: &mut [u32], part: Part<'_>, w: usize) -> Option<()>
+    requires { (w ≤ 32) × (length values.old < 2 ^ 32) }
+    ensures { Says (kind_decoded (Fixed w) (length values.old) (bits_of part.entry.bytes.now)) result values.new }
 {
-    if part.len() * 8 < values.len() * w {
+    if part.bytes.len() * 8 < values.len() * w {
         return None;
     }
     if w == 0 {
         values.fill(0);
         return Some(());
     }
-    let fours = decode_by::<4>(values, part, w, 0);
-    let twos = decode_by::<2>(values, part, w, fours);
-    decode_by::<1>(values, part, w, twos);
+    let fours = decode_by::<4>(values, part.bytes, w, 0);
+    let twos = decode_by::<2>(values, part.bytes, w, fours);
+    decode_by::<1>(values, part.bytes, w, twos);
     Some(())
 }
 
@@ -82,15 +84,15 @@ struct Span {
 // Merges a group of the layer that has these values, one by one, the last first: a value is its chunk and, where its continuation bit is 1,
 // the last rest that is not used yet above that. All bits of the group are read at once. Gives how many rests are left.
 #[inline(always)] // for a width that is a constant
-fn merge_group(values: &mut [u32], part: &[u8], radix: Radix, span: Span, kept: usize) -> usize
-    requires group { GroupNext radix.bits part.now values.old span kept }
-    requires le_k { (1 ≤ span.k) × (span.k * radix.bits ≤ 56) × (length part.now < 2 ^ 32) }
-    ensures { GroupMerged radix.bits part.now span values.old kept values.new result }
+fn merge_group(values: &mut [u32], part: Part<'_>, radix: Radix, span: Span, kept: usize) -> usize
+    requires group { GroupNext radix.bits part.bytes.now values.old span kept }
+    requires le_k { (1 ≤ span.k) × (span.k * radix.bits ≤ 56) }
+    ensures { GroupMerged radix.bits part.entry.bytes.now span values.old kept values.new result }
 {
     let b = radix.bits;
     let Span { at, from, k } = span;
-    let mut mores = read(part, at + from, k);
-    let mut chunks = read(part, at + values.len() + from * b, k * b);
+    let mut mores = read(part.bytes, at + from, k);
+    let mut chunks = read(part.bytes, at + values.len() + from * b, k * b);
     let mut kept = kept;
     for j in (0..k).rev() {
         let more = mores % 2;
@@ -106,11 +108,11 @@ fn merge_group(values: &mut [u32], part: &[u8], radix: Radix, span: Span, kept: 
 // Merges the layer that has these values and begins at bit `at` with the `rests`, the values of the layers after it, which stand at the
 // front. It goes from the last group to the first, so that no rest is lost before it is used.
 #[inline(always)] // for a width that is a constant
-fn merge(values: &mut [u32], part: &[u8], radix: Radix, at: usize, rests: usize)
-    requires whole { let n = length values.old in (length part.now < 2 ^ 32) × (at + n + n * radix.bits ≤ length part.now * 8) }
-    requires rests_value { (rests ≡ sum (continuations_at part.now at (length values.old))) × Small radix.bits values.old rests }
+fn merge(values: &mut [u32], part: Part<'_>, radix: Radix, at: usize, rests: usize)
+    requires whole { let n = length values.old in at + n + n * radix.bits ≤ length part.bytes.now * 8 }
+    requires rests_value { (rests ≡ sum (continuations_at part.bytes.now at (length values.old))) × Small radix.bits values.old rests }
     ensures { let n = length values.old in
-        values.new ≡ merged radix.bits (continuations_at part.now at n) (chunks_at part.now at n) (take rests values.old) }
+        values.new ≡ merged radix.bits (continuations_at part.entry.bytes.now at n) (chunks_at part.entry.bytes.now at n) (take rests values.old) }
 {
     let n = values.len();
     // As many as one read can have, wherever in a byte it begins.
@@ -125,11 +127,11 @@ fn merge(values: &mut [u32], part: &[u8], radix: Radix, at: usize, rests: usize)
 
 // As `merge`, with the widths 1 and 2 as constants, of which the compiler makes faster shifts. It would join calls that differ in one
 // constant, so the width comes with its power.
-fn merge_by_width(values: &mut [u32], part: &[u8], radix: Radix, at: usize, rests: usize)
-    requires whole { let n = length values.old in (length part.now < 2 ^ 32) × (at + n + n * radix.bits ≤ length part.now * 8) }
-    requires rests_value { (rests ≡ sum (continuations_at part.now at (length values.old))) × Small radix.bits values.old rests }
+fn merge_by_width(values: &mut [u32], part: Part<'_>, radix: Radix, at: usize, rests: usize)
+    requires whole { let n = length values.old in at + n + n * radix.bits ≤ length part.bytes.now * 8 }
+    requires rests_value { (rests ≡ sum (continuations_at part.bytes.now at (length values.old))) × Small radix.bits values.old rests }
     ensures { let n = length values.old in
-        values.new ≡ merged radix.bits (continuations_at part.now at n) (chunks_at part.now at n) (take rests values.old) }
+        values.new ≡ merged radix.bits (continuations_at part.entry.bytes.now at n) (chunks_at part.entry.bytes.now at n) (take rests values.old) }
 {
     match radix.bits {
         1 => merge(values, part, Radix::of(1), at, rests),
@@ -141,13 +143,13 @@ fn merge_by_width(values: &mut [u32], part: &[u8], radix: Radix, at: usize, rest
 // The values of the layers from bit `at` on, which may be `layers`.
 fn decode_layers(
     values: &mut [u32],
-    part: &[u8],
+    part: Part<'_>,
     radix: Radix,
     at: usize,
     layers: usize,
 ) -> Option<()>
-    requires { (length values.old < 2 ^ 32) × (length part.now < 2 ^ 32) × (at ≤ length part.now * 8) }
-    ensures { Says (decoded_layers layers radix.bits (length values.old) (drop at (bits_of part.now))) result values.new }
+    requires { (length values.old < 2 ^ 32) × (at ≤ length part.bytes.now * 8) }
+    ensures { Says (decoded_layers layers radix.bits (length values.old) (drop at (bits_of part.entry.bytes.now))) result values.new }
 {
     let n = values.len();
     if n == 0 {
@@ -157,7 +159,7 @@ fn decode_layers(
         return None;
     }
     let bits = n + n * radix.bits;
-    if part.len() * 8 - at < bits {
+    if part.bytes.len() * 8 - at < bits {
         return None;
     }
     let rests = count_ones(part, at, at + n);
@@ -170,11 +172,11 @@ fn decode_layers(
 }
 
 // The values of a level in code `code`.
-fn decode_kind(values: &mut [u32], part: &[u8], code: u8) -> Option<()>
-    requires { (length values.old < 2 ^ 32) × (length part.now < 2 ^ 32) }
-    ensures { Says (decoded code (length values.old) part.now) result values.new }
+fn decode_kind(values: &mut [u32], part: Part<'_>, code: u8) -> Option<()>
+    requires { length values.old < 2 ^ 32 }
+    ensures { Says (decoded code (length values.old) part.entry.bytes.now) result values.new }
 {
-    match kind_of(code) {
+    match Kind::from(code) {
         Kind::Fixed(w) => decode_fixed(values, part, w),
         Kind::Chunked(b) => decode_layers(values, part, Radix::of(b), 0, LAYERS),
         Kind::Refused => None,
@@ -182,10 +184,11 @@ fn decode_kind(values: &mut [u32], part: &[u8], code: u8) -> Option<()>
 }
 
 // Writes the values of a level in code `code`, of which there are as many as entries. Where they are not decoded, the entries are 0.
-pub fn decode(values: &mut [u32], part: &[u8], code: u8) -> bool
-    requires { (length values.old < 2 ^ 32) × (length part.now < 2 ^ 32) }
-    ensures value { result ≡ is_decoded (decoded code (length values.old) part.now) }
-    ensures values_after { values.new ≡ decoded_or0 (length values.old) (decoded code (length values.old) part.now) }
+// The answer is `is_decoded`, a truth value.
+pub fn decode(values: &mut [u32], part: Part<'_>, code: u8) -> bool
+    requires { length values.old < 2 ^ 32 }
+    ensures value { result ≡ is_decoded (decoded code (length values.old) part.entry.bytes.now) }
+    ensures values_after { values.new ≡ decoded_or0 (length values.old) (decoded code (length values.old) part.entry.bytes.now) }
 {
     let whole = decode_kind(values, part, code).is_some();
     if !whole {

@@ -1,11 +1,10 @@
 // A level's part, written to the front of a buffer.
-ghost use Rattle.std.specs.Prelude.{◌≡◌, ◌+◌, ◌*◌, ◌<◌, ◌≤◌, ◌++◌, length, drop, replicate};
-ghost use Rattle.codes.specs.Lists.{at_front};
+ghost use Rattle.std.specs.Prelude.{◌≡◌, ◌+◌, ◌*◌, ◌<◌, ◌≤◌, ◌++◌, length, drop};
 ghost use Rattle.codes.specs.Bits.{fixed};
 ghost use Rattle.codes.specs.Codes.{kind_of, part, Holds, worked};
 ghost use Rattle.codes.specs.Written.{Wrote};
 
-use super::kinds::{Kind, kind_of};
+use super::kinds::Kind;
 use super::layering::put_layers;
 use super::reading::low_bits;
 use super::writing::Writer;
@@ -22,20 +21,14 @@ fn put_fixed(out: &mut [u8], writer: Writer, w: usize, values: &[u32]) -> Writer
     p
 }
 
-// Copies the values to the front.
-pub fn copy_values(work: &mut [u32], values: &[u32])
-    requires { length values.now ≤ length work.old }
-    ensures { work.new ≡ at_front values.now work.old }
+// Copies the values, one by one: here the library's `copy_from_slice` would ask `memmove` of the C library.
+fn copy(front: &mut [u32], values: &[u32])
+    requires { length front.old ≡ length values.now }
+    ensures { front.new ≡ values.now }
 {
-    work[..values.len()].copy_from_slice(values);
-}
-
-// Makes the first `n` values 0.
-pub fn clear(work: &mut [u32], n: usize)
-    requires { n ≤ length work.old }
-    ensures { work.new ≡ replicate n 0 ++ drop n work.old }
-{
-    work[..n].fill(0);
+    for (i, &v) in values.iter().enumerate() {
+        front[i] = v;
+    }
 }
 
 // Writes the part of the values in code `code` to the front of `out`, and gives its length in bytes. A chunked code works in
@@ -48,15 +41,14 @@ pub fn encode(out: &mut [u8], work: &mut [u32], values: &[u32], code: u8) -> usi
     ensures work_after { work.new ≡ worked (kind_of code) (length values.now) work.old }
 {
     let start = Writer::new();
-    let kind = kind_of(code);
-    match kind {
+    match Kind::from(code) {
         Kind::Fixed(w) => {
             let p = put_fixed(out, start, w, values);
             p.finish(out)
         }
         Kind::Chunked(b) => {
             let front = &mut work[..values.len()];
-            front.copy_from_slice(values);
+            copy(front, values);
             let p = put_layers(out, start, b, front);
             front.fill(0);
             p.finish(out)

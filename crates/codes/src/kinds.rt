@@ -3,7 +3,8 @@ ghost use Rattle.std.specs.Prelude.{◌≡◌};
 ghost use Rattle.codes.specs.Codes.{kind_of};
 
 // Codes 0 to 32 are fixed widths in bits, codes 65 to 72 chunked with 1 to 8 bits; all others are refused. `Refused` is a variant, since
-// `kind_of`, `Holds` and `is_exact` of specs/Codes speak of it.
+// `kind_of`, `Holds` and `is_exact` of specs/Codes speak of it. Widths and b are plain numbers, since `kind_of` and the promises (`RoundTrip`)
+// speak of such; so that they are at most 32 and 8 is asked where they are used.
 #[derive(Clone, Copy, Debug, PartialEq, Eq)]
 pub enum Kind {
     Fixed(usize),
@@ -22,10 +23,4 @@ impl From<u8> for Kind {
             _ => Kind::Refused,
         }
     }
-}
-
-pub fn kind_of(code: u8) -> Kind
-    ensures { result ≡ kind_of code }
-{
-    Kind::from(code)
 }

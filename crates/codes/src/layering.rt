@@ -16,14 +16,14 @@ pub(crate) struct Radix {
 }
 
 impl Radix {
-    // The radix for chunks of `b` bits.
-    pub(crate) fn of(b: usize) -> Radix
-        requires { (1 ≤ b) × (b ≤ 8) }
-        ensures { result.bits ≡ b }
+    // The radix for chunks of so many bits.
+    pub(crate) fn of(bits: usize) -> Radix
+        requires { (1 ≤ bits) × (bits ≤ 8) }
+        ensures { result.bits ≡ bits }
     {
         Radix {
-            bits: b,
-            power: 1u64 << b,
+            bits,
+            power: 1 << bits,
         }
     }
 
@@ -74,6 +74,7 @@ struct Group {
 }
 
 // Joins the lowest chunks of `n` values from value `from` on, and adds what these values have above to the `left` in front.
+// It writes to the front of the slice that it reads, so it is told the place.
 fn joined_chunks(values: &mut [u32], from: usize, n: usize, radix: Radix, left: usize) -> Group
     requires left_bound { left ≤ from }
     requires n_in_bounds { (from + n ≤ length values.old) × (n * radix.bits ≤ 32) }

@@ -48,7 +48,7 @@ fn tally(values: &[u32]) -> [u32; 33]
     counts
 }
 
-// Of each four values one is counted in each array. The values over a whole number of fours go first.
+// Of each four values one is counted in each array. The values over a whole number of fours, at the end, are counted first.
 pub(crate) fn measure(values: &[u32]) -> [usize; 33]
     requires { length values.now < 2 ^ 32 }
     ensures { Measured values.now result }

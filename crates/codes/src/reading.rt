@@ -1,13 +1,7 @@
-// Bits of a part, read by whole bytes.
-ghost use Rattle.std.specs.Prelude.{◌≡◌, ◌+◌, ◌-◌, ◌*◌, ◌%◌, ◌^◌, ◌<◌, ◌≤◌, min, length, take, drop, slice_index};
+// Bits of a part, read by whole bytes. That the bits lie in the part, and in one word, is asked in each contract: it is a fact about the place
+// that is read, which no two reads share.
+ghost use Rattle.std.specs.Prelude.{◌≡◌, ◌+◌, ◌-◌, ◌*◌, ◌%◌, ◌^◌, ◌<◌, ◌≤◌, length, take, drop, slice_index};
 ghost use Rattle.codes.specs.Bits.{number, bits_of};
-
-// The lesser of two numbers.
-pub fn least(a: usize, b: usize) -> usize
-    ensures { result ≡ min a b }
-{
-    a.min(b)
-}
 
 // The `w` lowest bits of `x`.
 pub(crate) fn low_bits(x: u64, w: usize) -> u64
@@ -37,7 +31,8 @@ pub(crate) fn bytes_at<const N: usize>(part: &[u8], first: usize) -> [u8; N]
     <[u8; N]>::try_from(&part[first..first + N]).unwrap()
 }
 
-// The number that the 4 bytes from byte `first` on spell.
+// The number that the 4 bytes from byte `first` on spell. Each width has a `from_be_bytes` of its own, and no trait joins them; hence two
+// functions, this and the next.
 fn four_bytes(part: &[u8], first: usize) -> u32
     requires { first + 4 ≤ length part.now }
     ensures { result ≡ number (take 32 (drop (first * 8) (bits_of part.now))) }

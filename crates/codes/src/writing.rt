@@ -2,20 +2,14 @@
 ghost use Rattle.std.specs.Prelude.{◌≡◌, ◌+◌, ◌*◌, ◌^◌, ◌<◌, ◌≤◌, length, take, drop};
 ghost use Rattle.codes.specs.Bits.{bits, bytes_of, bytes_for, padded};
 
-// Where the next bit goes: `at` whole bytes are written, and the `have` lowest bits of `acc` wait for theirs.
+// Where the next bit goes: `at` whole bytes are written, and the `have` lowest bits of `acc` wait for theirs. The buffer is passed beside it:
+// a writer that borrowed the buffer would have to promise at each step that it is still the same one.
 #[derive(Clone, Copy)]
 pub(crate) struct Writer {
     at: usize,
     have: usize,
     acc: u64,
     ghost few: { have < 32 },
-}
-
-// A value as a word.
-pub(crate) fn wide_value(x: u32) -> u64
-    ensures { result ≡ x }
-{
-    x as u64
 }
 
 // The 32 lowest bits of `x`, as bytes, the highest first.

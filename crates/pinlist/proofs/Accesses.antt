@@ -4,8 +4,11 @@ use mathlib.Core.List.{List}
 use Prim.Native.Nat.{ℕ, ◌≤◌, ◌<◌}
 use native.Mathlib.Omega.{arith}
 use lib.ListN.{length, get_or}
+use Rattle.std.specs.Prelude.{Result, Ok, Err}
 use Rattle.tree.specs.Outcomes.{gives}
 use Rattle.tree.specs.Walks.{found, toward}
+use Rattle.strip.specs.declared.refusals.Refusal.{Refusal}
+use Rattle.strip.specs.Refusals.{outcome}
 use Rattle.strip.specs.Layout.{max_pins}
 use Rattle.strip.specs.Calls.{access_of, check_of, plain_list}
 use Rattle.strip.specs.Demands.{Accepted}
@@ -33,3 +36,8 @@ module _ (s : List ℕ) {n : ℕ} (e : check_of s ≡ gives n) where
 
   pub pins-few : n ≤ max_pins
   pins-few = omega (arith, pins_are, few-pins s accepted)
+
+-- an answer that gives something is not refused
+pub answer-given : {A : Type 0} {a : A} (r : Result A Refusal) → outcome r ≡ gives a → r ≡ Ok a
+answer-given (Ok b) e = ap Ok (outcome-laws.same e)
+answer-given (Err r) e = absurd (outcome-laws.never (sym e))

@@ -1,4 +1,5 @@
-// The text that is printed, put into a buffer piece by piece.
+// The text that is printed, put into a buffer piece by piece. The buffer is lent with the place: a struct that held it would have to promise at
+// each step that it is still the same.
 ghost use Rattle.std.specs.Prelude.{◌≡◌, ◌+◌, ◌<◌, ◌≤◌, length, get_or};
 ghost use Rattle.codes.specs.Lists.{replaced};
 ghost use Rattle.tree.specs.Outcomes.{gives};
@@ -6,7 +7,7 @@ ghost use Rattle.strip.specs.Calls.{check_of, plain_list};
 ghost use Rattle.strip.specs.Demands.{Accepted};
 ghost use Rattle.pinlist.specs.Texts.{numeral, header, line, lines_from, most_in_line, refusal_line};
 
-use strip::{Strip, Walked};
+use strip::Strip;
 
 // So many lines at the front of the text, and where they end.
 #[derive(Clone, Copy)]
@@ -21,12 +22,9 @@ fn put(text: &mut [u8], at: usize, bytes: &[u8]) -> usize
     ensures text_after { text.new ≡ replaced text.old at bytes.now }
     ensures value { result ≡ at + length bytes.now }
 {
-    let mut i: usize = 0;
-    while i < bytes.len() {
-        text[at + i] = bytes[i];
-        i += 1;
-    }
-    at + i
+    let end = at + bytes.len();
+    text[at..end].copy_from_slice(bytes);
+    end
 }
 
 // Puts a number in decimal, then the byte `after`.
@@ -72,16 +70,12 @@ pub(crate) fn put_refusal(text: &mut [u8], number: usize, carried: usize) -> usi
     put_line(text, at, number, carried)
 }
 
-// The time at position i of an accepted strip. By demand 2 no access to it is refused; 0 stands there so that the match is whole.
+// The time at position i of an accepted strip. By demand 2 no access to it is refused.
 fn time_at(s: &[u8], i: usize) -> usize
     requires { Accepted s.now × (i < length (plain_list s.now)) }
     ensures { result ≡ get_or (plain_list s.now) i 0 }
 {
-    let accessed = Strip::access(s, i);
-    match accessed {
-        Walked::Found(f) => f.value,
-        Walked::Refused(_) => 0,
-    }
+    Strip::access(s, i).unwrap().value
 }
 
 // Puts the lines from that of position `first` on to the front, one at least, until there are no more or there may be no room for another.
@@ -92,10 +86,14 @@ pub(crate) fn put_times(text: &mut [u8], s: &[u8], first: usize, n: usize) -> Pi
     ensures le_lines { (1 ≤ result.lines) × (first + result.lines ≤ n) }
 {
     let mut end: usize = 0;
-    let mut k: usize = 0;
-    while first + k < n && end + 42 <= text.len() {
+    for k in 0..n - first {
+        if end + 42 > text.len() {
+            return Piece { lines: k, end };
+        }
         end = put_line(text, end, first + k, time_at(s, first + k));
-        k += 1;
     }
-    Piece { lines: k, end: end }
+    Piece {
+        lines: n - first,
+        end,
+    }
 }

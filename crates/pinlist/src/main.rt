@@ -12,7 +12,7 @@ ghost use Rattle.pinlist.specs.Texts.{most_bytes, printed};
 
 use lines::{put_header, put_refusal, put_times};
 use std::io::{Read, Write, writer};
-use strip::{Checked, Strip, carried, number};
+use strip::Strip;
 
 // Writes the piece of what is printed for the input s that begins at byte `done`, and answers where it ends. Nothing else writes, and each call
 // goes on from the answer of the one before, 0 at first, to the length that `print` answers. The input serves the contract alone.
@@ -33,6 +33,7 @@ fn print_list(rt: &HostRuntime, s: &[u8], n: usize) -> usize
     let text: &mut [u8] = &mut space;
     let end = put_header(text, n);
     let mut done = write_next(rt, s, 0, &text[..end]);
+    // Each piece says how many lines it has.
     let mut i: usize = 0;
     while i < n {
         let piece = put_times(text, s, i, n);
@@ -60,10 +61,9 @@ fn print(rt: &HostRuntime, s: &[u8]) -> usize
     if s.len() > 65536 {
         return write_next(rt, s, 0, b"too long\n");
     }
-    let checked = Strip::check(s);
-    match checked {
-        Checked::Pins(n) => print_list(rt, s, n),
-        Checked::Refused(r) => print_refusal(rt, s, number(r), carried(r)),
+    match Strip::check(s) {
+        Ok(n) => print_list(rt, s, n),
+        Err(r) => print_refusal(rt, s, r.number(), r.carried()),
     }
 }
 
@@ -75,13 +75,8 @@ fn read_full(rt: &HostRuntime, bytes: &mut [u8]) -> usize
     let mut done: usize = 0;
     while done < bytes.len() {
         match input.read(&mut bytes[done..]) {
-            Ok(n) => {
-                if n == 0 {
-                    break;
-                }
-                done += n;
-            }
-            Err(_) => break,
+            Ok(0) | Err(_) => break,
+            Ok(n) => done += n,
         }
     }
     done

@@ -1,8 +1,7 @@
--- What is known of the times that were listed, of what is told of them, and of what unpack leaves.
+-- What is known of the times that were listed, of what check answers for them, and of what unpack leaves.
 use mathlib.Core.Path.{◌≡◌, refl, sym, ap, ◌∙◌}
 use mathlib.Core.Bool.{Bool, true, false, not, false≢true}
 use mathlib.Core.List.{List, [], ◌∷◌}
-use mathlib.Core.Option.{none, some}
 use Prim.Native.Nat.{ℕ, ◌-◌, ◌^◌, ◌≤◌, ◌<◌}
 use native.Mathlib.Nat.{zero-add}
 use native.Mathlib.Omega.{arith}
@@ -16,21 +15,20 @@ use Rattle.codes.specs.Codes.{Within}
 use Rattle.tree.specs.declared.nodes.Levels.{Levels}
 use Rattle.tree.specs.Levels.{Fits}
 use Rattle.tree.specs.Lists.{ordered}
-use Rattle.tree.specs.declared.listing.Listed.{Listed}
-use Rattle.tree.specs.Outcomes.{Outcome, gives, refuses, after, Test, test, verdict}
+use Rattle.tree.specs.declared.listing.Stop.{Stop}
+use Rattle.std.specs.Prelude.{Result}
+use Rattle.tree.specs.Outcomes.{gives, refuses, after, Test, test, verdict}
 use Rattle.tree.specs.Listing.{accesses, stop_all, end_of, Lists}
 use Rattle.codes.specs.Lists.{filled_to}
 use Rattle.tree.specs.Chosen.{all_chosen}
 use Rattle.tree.proofs.Promises.{height-least, listing-finds, outcome-laws}
-use Rattle.strip.specs.declared.reading.Asked.{Asked}
-use Rattle.strip.specs.declared.reading.Asked.TheVariants as asking
 use Rattle.strip.specs.Lists.{first_lower}
 use Rattle.strip.specs.Image.{image}
 use Rattle.strip.specs.Opening.{opening}
-use Rattle.strip.specs.Calls.{room_for, list_in, image_test, check_in}
-use Rattle.strip.specs.Read.{unpack_in, gap_or, counted, gap_of, image_in, end_in, list_read}
+use Rattle.strip.specs.Calls.{room_for, list_in, image_test, check_in, repeat_from}
+use Rattle.strip.specs.Read.{unpack_in, gap_or, falls_test, image_in}
 use Rattle.strip.proofs.OpenImages.{open-image, open-packable, image-chosen}
-use Rattle.strip.proofs.Readings.{ending, repeat-lists, falls_test, falls-first, check-lists}
+use Rattle.strip.proofs.Readings.{ending, repeat-lists, check-lists}
 use Rattle.strip.proofs.Verdicts.{outcome-passed, verdict-passed}
 
 -- the levels of an open strip have at most 65,535 pins
@@ -45,7 +43,7 @@ pub record Front (s : List ℕ) (levels : Levels) (n : ℕ) (now : List ℕ) : T
   pub count : n ≡ length (take n now)
   pub is : take n now ≡ list_in s levels
 
-pub listed-front : (s : List ℕ) (levels : Levels) {r : Listed} {now : List ℕ} → Lists (accesses levels s) levels.pins 0 r → now ≡ filled_to levels.pins (list_in s levels)
+pub listed-front : (s : List ℕ) (levels : Levels) {r : Result (Unit {0}) Stop} {now : List ℕ} → Lists (accesses levels s) levels.pins 0 r → now ≡ filled_to levels.pins (list_in s levels)
     → Front s levels (end_of r levels.pins) now
 unfolding list_in
 listed-front s levels {r} {now} w is =
@@ -59,12 +57,7 @@ listed-front s levels {r} {now} w is =
       is = front;
     }
 
--- ---- what is told
-
-after-gives : {A : Type 0} (o : Outcome A) → after o gives ≡ o
-after-gives (gives a) = refl
-after-gives (refuses r c) = refl
-
+-- ---- what check answers
 module _ (s : List ℕ) (levels : Levels) (o : opening s ≡ gives levels) (bytes : Within 8 s) where
   -- the levels tell 12
   chosen_is : stop_all levels s ≡ gives tt → ordered (list_in s levels) ≡ true → all_chosen levels s ≡ same (image (list_in s levels)) s
@@ -77,30 +70,25 @@ module _ (s : List ℕ) (levels : Levels) (o : opening s ≡ gives levels) (byte
           absurd (false≢true (sym p ∙ image-chosen s levels (list_in s levels) (open-packable s levels o all in_order is) o is))
       go false false p q = refl
 
-  -- check and unpack
-  check-told : (stop : Test) → stop ≡ stop_all levels s → gap_or 0 (list_in s levels) (after stop (λ _. image_in s levels)) ≡ counted (check_in s levels)
+  -- check, where every position has a time
+  pub check-listed : gives tt ≡ stop_all levels s → after (falls_test (list_in s levels)) (λ _. image_in s levels) ≡ check_in s levels
   unfolding verdict test
-  check-told stop e =
-      let xs = list_in s levels in
-      sym (after-gives (gap_or 0 xs (after stop (λ _. image_in s levels)))) ∙ falls-first xs (after stop (λ _. image_in s levels)) gives
-      ∙ go (ordered xs) refl stop e
-      ∙ ap counted (ap (λ (z : Test). verdict (falls_test xs ∷ z ∷ image_test s levels ∷ []) levels.pins) e ∙ sym (check-lists s levels))
+  check-listed all = go (ordered (list_in s levels)) refl ∙ sym (check-lists s levels)
     where
-      told : (b : Bool) → after (after (test (not b) 12 0) (λ _. gives (some levels.pins))) gives ≡ counted (after (test (not b) 12 0) (λ _. gives levels.pins))
-      told true = refl
-      told false = refl
+      go : (b : Bool) → ordered (list_in s levels) ≡ b → let falls = test (not b) 11 (first_lower (list_in s levels)) in
+          after falls (λ _. image_in s levels) ≡ verdict (falls ∷ stop_all levels s ∷ image_test s levels ∷ []) levels.pins
+      go false p = refl
+      go true p = rw (← all, chosen_is (sym all) p)
 
-      go : (b : Bool) → ordered (list_in s levels) ≡ b → (z : Test) → z ≡ stop_all levels s → let falls = test (not b) 11 (first_lower (list_in s levels)) in
-          after falls (λ _. after (after z (λ _. image_in s levels)) gives) ≡ counted (after falls (λ _. after z (λ _. verdict (image_test s levels ∷ []) levels.pins)))
-      go false p z q = refl
-      go true p (refuses r c) q = refl
-      go true p (gives u) q = rw (chosen_is (sym q) p) (told (same (image (list_in s levels)) s))
+-- check, where one has none
+pub check-stopped : (s : List ℕ) (levels : Levels) {r c : ℕ} → refuses r c ≡ stop_all levels s → after (falls_test (list_in s levels)) (λ _. refuses r c) ≡ check_in s levels
+unfolding verdict
+check-stopped s levels e = sym (check-lists s levels ∙ ap (λ (z : Test). verdict (falls_test (list_in s levels) ∷ z ∷ image_test s levels ∷ []) levels.pins) (sym e))
 
-  pub read-lists : (asked : Asked) (stop : Test) → stop ≡ stop_all levels s → gap_or (gap_of asked) (list_in s levels) (after stop (λ _. end_in asked s levels)) ≡ list_read asked s levels
-  unfolding list_in
-  read-lists asking.Check stop e = check-told stop e
-  read-lists asking.Unpack stop e = check-told stop e
-  read-lists (asking.Repeat r) stop e = ap (λ (z : Test). gap_or r (list_in s levels) (ending z)) e ∙ sym (repeat-lists (accesses levels s) r levels.pins)
+-- repeat
+pub repeat-listed : (s : List ℕ) (levels : Levels) (r : ℕ) (stop : Test) → stop ≡ stop_all levels s → gap_or r (list_in s levels) (ending stop) ≡ repeat_from (accesses levels s) r levels.pins 0
+unfolding list_in
+repeat-listed s levels r stop e = ap (λ (z : Test). gap_or r (list_in s levels) (ending z)) e ∙ sym (repeat-lists (accesses levels s) r levels.pins)
 
 -- ---- check's answer
 
@@ -123,27 +111,10 @@ module _ (s : List ℕ) (levels : Levels) where
   unfolding list_in
   accepted-count n e = let a = accepts n e in listing-finds.count _ levels.pins a.all ∙ sym a.pins
 
-  -- unpack's answer, where check refuses and where it accepts
-  pub unpack-refused : (room r c : ℕ) → refuses r c ≡ check_in s levels → refuses r c ≡ unpack_in s room levels
-  unpack-refused room r c e = rw (← e)
-
+  -- unpack's answer, where check accepts
   pub unpack-listed : (room n : ℕ) → gives n ≡ check_in s levels → room_for room (length (list_in s levels)) ≡ unpack_in s room levels
   unpack-listed room n e = rw (← e, accepted-count n e)
 
   -- then the list fills the buffer that was lent
   pub accepted-whole : (n : ℕ) → gives n ≡ check_in s levels → filled_to levels.pins (list_in s levels) ≡ list_in s levels
   accepted-whole n e = list-laws.filled_whole levels.pins (list_in s levels) (accepted-count n e ∙ (accepts n e).pins)
-
--- ---- a pin count, as it is told
-
-pub counted-gives : (o : Outcome ℕ) {n : ℕ} → gives (some n) ≡ counted o → gives n ≡ o
-counted-gives (gives m) e = cc
-counted-gives (refuses r c) e = absurd (outcome-laws.never e)
-
-pub counted-refuses : (o : Outcome ℕ) {r c : ℕ} → refuses r c ≡ counted o → refuses r c ≡ o
-counted-refuses (gives m) e = absurd (outcome-laws.never (sym e))
-counted-refuses (refuses q d) e = cc
-
-pub counted-some : (o : Outcome ℕ) → gives none ≡ counted o → ⊥
-counted-some (gives m) e = let z : ◌≡◌ {A = ℕ} 0 1 = cc in omega arith
-counted-some (refuses r c) e = outcome-laws.never e

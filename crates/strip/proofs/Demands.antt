@@ -3,7 +3,7 @@ use mathlib.Core.Path.{◌≡◌, refl, sym, ap, subst, ◌∙◌}
 use mathlib.Core.Logic.{◌↔◌}
 use mathlib.Core.Bool.{true, not, cond}
 use mathlib.Core.List.{List, [], ◌∷◌, ◌++◌, map, append-nil}
-use mathlib.Core.Option.{Option, none, some}
+use Rattle.std.specs.Prelude.{Option, None, Some, Result, Ok, Err}
 use Prim.Native.Nat.{ℕ, zero, suc, ◌≤◌, ◌<◌}
 use native.Mathlib.Nat.{le_refl}
 use native.Mathlib.Decide.{dec_lt}
@@ -25,19 +25,13 @@ use Rattle.tree.specs.Walks.{found, toward, path}
 use Rattle.tree.specs.Sweeps.{different}
 use Rattle.tree.specs.Promises.{Held, Contents}
 use Rattle.tree.proofs.Promises.{held_reads, different-few, outcome-laws}
-use Rattle.strip.specs.declared.strip.Packed.{Packed}
-use Rattle.strip.specs.declared.strip.Packed.TheVariants as packing
-use Rattle.strip.specs.declared.strip.Checked.{Checked}
-use Rattle.strip.specs.declared.strip.Checked.TheVariants as checking
-use Rattle.strip.specs.declared.strip.Walked.{Walked}
-use Rattle.strip.specs.declared.strip.Walked.TheVariants as walking
-use Rattle.strip.specs.declared.strip.Swept.{Swept}
-use Rattle.strip.specs.declared.strip.Swept.TheVariants as sweeping
+use Rattle.strip.specs.declared.refusals.Refusal.{Refusal}
+use Rattle.strip.specs.Refusals.{outcome}
 use Rattle.strip.specs.declared.walker.Walker.{Walker}
 use Rattle.strip.specs.Layout.{max_pins}
 use Rattle.strip.specs.Image.{Packable, image}
 use Rattle.strip.specs.Opening.{opening}
-use Rattle.strip.specs.Calls.{pack_of, written, pack_output, packed, search_of, walked, sweep_of, sweep_output, swept, list_in, check_in, check_of, checked, plain_list, unpack_of, unpack_output, moved_by, step_of, next_of, walker_step, walker_after, walker_after_steps}
+use Rattle.strip.specs.Calls.{pack_of, written, pack_output, search_of, sweep_of, sweep_output, list_in, check_in, check_of, plain_list, unpack_of, unpack_output, moved_by, step_of, next_of, walker_step, walker_after, walker_after_steps}
 use Rattle.strip.specs.Promises.{Opens}
 use Rattle.strip.specs.Demands.{PacksTo, UnpacksTo, Accepted, CheckAccepts, Demand2, SweepsAs, Demand3, WalkerLists}
 use Rattle.strip.proofs.Verdicts.{verdict-passed}
@@ -47,15 +41,11 @@ use Rattle.strip.proofs.OpenImages.{open-packable}
 use Rattle.strip.proofs.Checks.{accepts}
 use Rattle.strip.proofs.Promises.{image-opens, round_trip}
 
--- ---- an answer of the code that gives a number
+-- ---- an answer of the code that gives something
 
-code_packs : (r : Packed) (n : ℕ) → packed r ≡ gives n → r ≡ packing.Length n
-code_packs (packing.Length m) n e = ap packing.Length (outcome-laws.same e)
-code_packs (packing.Refused r) n e = absurd (outcome-laws.never (sym e))
-
-code-checks : (r : Checked) (n : ℕ) → checked r ≡ gives n → r ≡ checking.Pins n
-code-checks (checking.Pins m) n e = ap checking.Pins (outcome-laws.same e)
-code-checks (checking.Refused r) n e = absurd (outcome-laws.never (sym e))
+given : {A : Type 0} (r : Result A Refusal) (a : A) → outcome r ≡ gives a → r ≡ Ok a
+given (Ok b) a e = ap Ok (outcome-laws.same e)
+given (Err r) a e = absurd (outcome-laws.never (sym e))
 
 -- ---- from a list to its strip
 
@@ -160,10 +150,10 @@ counts s xs out w to = ap check_of (image-is xs s out to) ∙ check-back xs (pac
 check-accepts : (s : List ℕ) → Accepted s → CheckAccepts s
 check-accepts s (xs, w, (out, to)) = (length xs, counts s xs out w to)
 
-code_accepts : (s : List ℕ) (r : Checked) → checked r ≡ check_of s → ((n : ℕ) × (r ≡ checking.Pins n)) ↔ Accepted s
+code_accepts : (s : List ℕ) (r : Result ℕ Refusal) → outcome r ≡ check_of s → ((n : ℕ) × (r ≡ Ok n)) ↔ Accepted s
 code_accepts s r e = (
-  λ (n, is). accepted s (n, sym e ∙ ap checked is),
-  λ a. let (n, c) = check-accepts s a in (n, code-checks r n (e ∙ c)),
+  λ (n, is). accepted s (n, sym e ∙ ap outcome is),
+  λ a. let (n, c) = check-accepts s a in (n, given r n (e ∙ c)),
 )
 
 one_list : (s xs out : List ℕ) → Within 32 xs → PacksTo xs s out → Packable xs × (xs ≡ plain_list s)
@@ -179,18 +169,17 @@ searches s (xs, w, (out, to)) t =
     let one = one_list s xs out w to in
     ap (λ (l : List ℕ). search_of l t) (image-is xs s out to) ∙ (round_trip xs one.0).search t ∙ ap (λ (l : List ℕ). gives (found (smaller t l) (length (path l t)))) one.1
 
-code_searches : (s : List ℕ) → Accepted s → (t : ℕ) (r : Walked) → walked r ≡ search_of s t → r ≡ walking.Found (found (smaller t (plain_list s)) (length (path (plain_list s) t)))
-code_searches s a t (walking.Found f) e = ap walking.Found (outcome-laws.same (e ∙ searches s a t))
-code_searches s a t (walking.Refused r) e = absurd (outcome-laws.never (sym (e ∙ searches s a t)))
+code_searches : (s : List ℕ) → Accepted s → (t : ℕ) (r : Result Found Refusal) → outcome r ≡ search_of s t → r ≡ Ok (found (smaller t (plain_list s)) (length (path (plain_list s) t)))
+code_searches s a t r e = given r _ (e ∙ searches s a t)
 
 pub demand-2 : Demand2
 demand-2 = record {
   packs = packs;
-  code_packs = λ xs p out room r after e q. let to = packs xs p out room in (code_packs r (length (image xs)) (e ∙ to.0), q ∙ to.1);
+  code_packs = λ xs p out room r after e q. let to = packs xs p out room in (given r (length (image xs)) (e ∙ to.0), q ∙ to.1);
   one_strip = image-is;
   fewest_bits = λ xs p. (levels xs p, (opens xs p).bits);
   unpacks = unpacks-back;
-  code_unpacks = λ xs p out room r after e q. let to = unpacks-back xs p out room in (code-checks r (length xs) (e ∙ to.0), q ∙ to.1);
+  code_unpacks = λ xs p out room r after e q. let to = unpacks-back xs p out room in (given r (length xs) (e ∙ to.0), q ∙ to.1);
   accepts = λ s. (accepted s, check-accepts s);
   code_accepts = code_accepts;
   pin_count = pin_count;
@@ -237,11 +226,9 @@ module _ (s ts answers : List ℕ) (a : Accepted s) (o : T (ordered ts)) (e : le
     at_most_heights = different-few.heights (plain_list s) ts;
   }
 
-  code_sweeps : (r : Swept) (after : List ℕ) → swept r ≡ sweep_of s ts (length answers) → after ≡ sweep_output s ts answers
-      → (nodes : ℕ) × (r ≡ sweeping.Nodes nodes) × SweepsAs s ts nodes after
-  code_sweeps (sweeping.Nodes k) after h q =
-      (different (plain_list s) ts, ap sweeping.Nodes (outcome-laws.same (h ∙ swept_as.0)), subst (SweepsAs s ts (different (plain_list s) ts)) (sym q) sweeps)
-  code_sweeps (sweeping.Refused r) after h q = absurd (outcome-laws.never (sym (h ∙ swept_as.0)))
+  code_sweeps : (r : Result ℕ Refusal) (after : List ℕ) → outcome r ≡ sweep_of s ts (length answers) → after ≡ sweep_output s ts answers
+      → (nodes : ℕ) × (r ≡ Ok nodes) × SweepsAs s ts nodes after
+  code_sweeps r after h q = (different (plain_list s) ts, given r _ (h ∙ swept_as.0), subst (SweepsAs s ts (different (plain_list s) ts)) (sym q) sweeps)
 
 pub demand-3 : Demand3
 demand-3 = record {
@@ -252,17 +239,17 @@ demand-3 = record {
 -- ---- the pin walker
 
 step-of : (s : List ℕ) → Accepted s → (i : ℕ)
-    → step_of s i ≡ gives (cond (leb (length (plain_list s)) i) none (some (found (get_or (plain_list s) i 0) (length (toward (length (plain_list s)) i)))))
+    → step_of s i ≡ gives (cond (leb (length (plain_list s)) i) None (Some (found (get_or (plain_list s) i 0) (length (toward (length (plain_list s)) i)))))
 step-of s (xs, w, (out, to)) i = let one = one_list s xs out w to in rw (← one.1, image-is xs s out to) ((round_trip xs one.0).step i)
 
 module _ (w : Walker) (start : w.next ≡ 0) (a : Accepted w.strip.now) where
   abbrev times : List ℕ
   times = plain_list w.strip.now
 
-  step-time : (k : ℕ) → k < length times → step_of w.strip.now k ≡ gives (some (found (get_or times k 0) (length (toward (length times) k))))
+  step-time : (k : ℕ) → k < length times → step_of w.strip.now k ≡ gives (Some (found (get_or times k 0) (length (toward (length times) k))))
   step-time k l = step-of w.strip.now a k ∙ rw (lt-leb (length times) k l)
 
-  step_end : (k : ℕ) → length times ≤ k → step_of w.strip.now k ≡ gives none
+  step_end : (k : ℕ) → length times ≤ k → step_of w.strip.now k ≡ gives None
   step_end k l = step-of w.strip.now a k ∙ rw (le-leb (length times) k l)
 
   abbrev at : ℕ → Walker

@@ -32,7 +32,7 @@ entries-all : {A : Type 0} (s : List ℕ) (ts : List Test) (a : A) (k d : ℕ) �
 unfolding entries_tests
 entries-all s ts a zero d h = refl
 entries-all s ts a (suc k) d h =
-    entries-step s ts a k d ∙ rw (entry-passes (suc d) (count_of (pins_of s) d) (code_at s d) (length_at s d) (h d (omega arith))) (entries-all s ts a k (suc d) (λ i l. h i (omega arith)))
+    entries-step s ts a k d ∙ rw (entry-passes (suc d) (count_of (pins_of s) d) (code_at s d) (length_at s d) (tt {0}) (h d (omega arith))) (entries-all s ts a k (suc d) (λ i l. h i (omega arith)))
 
 module _ (values : List ℕ) (some : 1 ≤ length values) (few : length values < 2 ^ 16) (w : Within 32 values) where
   pins-back : pins_of (strip_of values) ≡ length values

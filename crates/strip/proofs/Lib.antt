@@ -17,3 +17,4 @@ pub mod Promises
 pub mod Readings
 pub mod Sweeps
 pub mod Verdicts
+pub mod Exits

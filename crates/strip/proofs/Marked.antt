@@ -2,7 +2,7 @@
 use mathlib.Core.Path.{◌≡◌, refl, ap₂}
 use mathlib.Core.Bool.{Bool}
 use mathlib.Core.List.{List, [], ◌∷◌}
-use mathlib.Core.Option.{Option, none, some}
+use Rattle.std.specs.Prelude.{Option, None, Some}
 use Prim.Native.Nat.{ℕ, zero, suc, ◌<◌}
 use native.Mathlib.Omega.{arith}
 use lib.Dec.{T, eqb, eqb→eq}
@@ -22,10 +22,10 @@ use Rattle.codes.proofs.Promises.{list-laws}
 
 module _ {A : Type 0} (equal : A → A → Bool) (same-values : (a b : A) → T (equal a b) → a ≡ b) where
   same-options : (x y : Option A) → T (same_option equal x y) → x ≡ y
-  same-options none none h = refl
-  same-options none (some b) h = absurd h
-  same-options (some a) none h = absurd h
-  same-options (some a) (some b) h = rw (same-values a b h)
+  same-options None None h = refl
+  same-options None (Some b) h = absurd h
+  same-options (Some a) None h = absurd h
+  same-options (Some a) (Some b) h = rw (same-values a b h)
 
   same-outcomes : (x y : Outcome A) → T (same_outcome equal x y) → x ≡ y
   same-outcomes (gives a) (gives b) h = rw (same-values a b h)

@@ -2,7 +2,7 @@
 use mathlib.Core.Path.{◌≡◌, refl, ap, ◌∙◌}
 use mathlib.Core.Bool.{Bool, true, false, cond}
 use mathlib.Core.List.{List, [], ◌∷◌, ◌++◌}
-use mathlib.Core.Option.{none, some}
+use Rattle.std.specs.Prelude.{None, Some}
 use Prim.Native.Nat.{ℕ, zero, suc, ◌-◌, ◌^◌}
 use native.Mathlib.Nat.{le_refl}
 use lib.Dec.{eqb, leb}
@@ -93,7 +93,7 @@ module _ (s : List ℕ) (bytes : Within 8 s) where
     repeats : (r k i : ℕ) → CarriesChunked s (repeat_from (accesses levels s) r k i)
     unfolding repeat_from
     repeats r zero i = given _
-    repeats r (suc k) i = then _ _ (at_position i) (λ _ _. either (near_at (time_at (accesses levels s)) r i) (given (some i)) (repeats r k (suc i)))
+    repeats r (suc k) i = then _ _ (at_position i) (λ _ _. either (near_at (time_at (accesses levels s)) r i) (given (Some i)) (repeats r k (suc i)))
 
     sweep : (ts : List ℕ) → CarriesChunked s (sweep_answer levels.pins (times_in levels s) ts)
     sweep ts = walk _ (tree-nines.sweeps levels.pins (times_in levels s) ts) _
@@ -113,7 +113,7 @@ module _ (s : List ℕ) (bytes : Within 8 s) where
     check = checked;
     unpack = λ room. then _ _ checked (λ n _. last _ _ (tested _ 4 n refl));
     repeat = λ r. call _ (λ levels e. repeats levels e r levels.pins 0);
-    step = λ i. call _ (λ levels e. either (leb levels.pins i) (given none) (then _ _ (in-access levels e i) (λ f _. given (some f))));
+    step = λ i. call _ (λ levels e. either (leb levels.pins i) (given None) (then _ _ (in-access levels e i) (λ f _. given (Some f))));
   }
 
 pub only_chunked : NineChunked

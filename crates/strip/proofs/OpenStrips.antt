@@ -1,5 +1,5 @@
 -- What opening has found out of a strip that is open; so its levels fit its bytes.
-use mathlib.Core.Path.{◌≡◌, refl}
+use mathlib.Core.Path.{◌≡◌}
 use mathlib.Core.Bool.{true}
 use mathlib.Core.List.{List, [], ◌∷◌, ◌++◌}
 use Prim.Native.Nat.{ℕ, zero, suc, ◌+◌, ◌*◌, ◌^◌, ◌≤◌, ◌<◌}
@@ -14,14 +14,9 @@ use Rattle.tree.specs.Shape.{height}
 use Rattle.tree.specs.Levels.{count_of, Fits}
 use Rattle.tree.specs.Outcomes.{gives, Test, verdict}
 use Rattle.tree.proofs.Promises.{outcome-laws}
-use Rattle.strip.specs.declared.opening.Opening.{Opening}
-use Rattle.strip.specs.declared.opening.Status.{Status}
-use Rattle.strip.specs.declared.opening.Status.TheVariants as status
 use Rattle.strip.specs.Layout.{version, two_at, pins_of, code_at, length_at, parts_start}
 use Rattle.strip.specs.Opening.{has_mark, header_tests, entries_tests, length_by_entries, length_test, level_tests, levels_in, opening}
-use Rattle.strip.specs.Opened.{status_of, opened, FitsOpen}
 use Rattle.strip.proofs.Layouts.{laid-fits}
-use Rattle.strip.proofs.Openings.{opening-is}
 use Rattle.strip.proofs.Verdicts.{verdict-passed}
 
 -- the level below d others has a code, and where that is fixed exactly the bytes that its values need
@@ -73,11 +68,3 @@ open-fits s levels bytes e =
   where
     short : (d : ℕ) → length_at s d < 2 ^ 32
     short d = omega (arith, bytes (8 + 5 * d), bytes (8 + 5 * d + 1), bytes (8 + 5 * d + 2), bytes (8 + 5 * d + 2 + 1))
-
--- as the code says
-pub fits-open : (s : List ℕ) → Within 8 s → (o : Opening) → opened o ≡ opening s → FitsOpen o.status o.levels s
-fits-open s bytes o e = go o.status (opening-is s o o.status e refl)
-  where
-    go : (x : Status) → opening s ≡ status_of x o.levels → FitsOpen x o.levels s
-    go status.Open q = open-fits s o.levels bytes q
-    go (status.Refused r) q = tt

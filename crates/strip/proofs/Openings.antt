@@ -1,6 +1,6 @@
 -- Opening refuses by the first of 5, 6, 7, 1, 5, then level by level 8 and 23, then 13 that holds, and otherwise finds the levels.
 use mathlib.Core.Path.{◌≡◌, refl, sym, ap, ◌∙◌}
-use mathlib.Core.Bool.{true, false, not}
+use mathlib.Core.Bool.{Bool, true, false, not, ◌&&◌}
 use mathlib.Core.List.{List, [], ◌∷◌, ◌++◌}
 use Prim.Native.Nat.{ℕ, suc, ◌+◌, ◌-◌, ◌*◌, ◌≤◌, ◌<◌}
 use native.Mathlib.Numerals.{add-one}
@@ -12,17 +12,47 @@ use Rattle.codes.specs.declared.kinds.Kind.{Kind}
 use Rattle.codes.specs.declared.kinds.Kind.TheVariants.{Fixed, Chunked, Refused}
 use Rattle.codes.specs.Bits.{bytes_for}
 use Rattle.codes.specs.Codes.{kind_of, is_exact}
-use Rattle.strip.specs.declared.opening.Opening.{Opening}
-use Rattle.strip.specs.declared.opening.Status.{Status}
+use native.Mathlib.Decide.{dec_lt}
+use Rattle.std.specs.List.{starts_with}
+use Rattle.std.specs.Prelude.{Result, Ok, Err}
+use Rattle.std.specs.Result.{IsErrAnd}
+use Rattle.strip.specs.declared.refusals.Refusal.{Refusal as CallRefusal}
+use Rattle.strip.specs.declared.open.Open.{Open}
+use Rattle.strip.specs.Opened.{opened}
+use Rattle.strip.specs.Refusals.{refusal, outcome}
+use Rattle.std.proofs.lemmas.Result.{err_from_is_err_and}
+use Rattle.strip.proofs.Exits.{handed-up}
+use Rattle.tree.specs.declared.nodes.Levels.{Levels}
 use Rattle.tree.specs.Levels.{count_of}
 use Rattle.tree.specs.Outcomes.{Outcome, gives, refuses, after, Test, test, verdict}
 use Rattle.tree.proofs.Promises.{outcome-laws}
-use Rattle.strip.specs.Layout.{version, two_at, pins_of, code_at, length_at, parts_start}
+use Rattle.strip.specs.Layout.{mark, version, two_at, pins_of, code_at, length_at, parts_start}
 use Rattle.strip.specs.Opening.{has_mark, header_tests, is_refused, entry_tests, entry_tests_at, entries_tests, length_by_entries, length_test, level_tests, levels_in, opening}
-use Rattle.strip.specs.Opened.{status_of, opened}
 use Rattle.strip.proofs.Verdicts.{verdict-holds, verdict-passes}
 
 -- ---- the header, test by test
+
+eqb-swap : (a b : ℕ) → eqb a b ≡ eqb b a
+eqb-swap a b = elim (dec_lt a b) [
+  | yes l ↦ rw (ne_eqb a b (λ e. omega arith), ne_eqb b a (λ e. omega arith))
+  | no l ↦ elim (dec_lt b a) [
+    | yes m ↦ rw (ne_eqb a b (λ e. omega arith), ne_eqb b a (λ e. omega arith))
+    | no m ↦ rw (eq-eqb a b (omega arith), eq-eqb b a (omega arith))
+  ]
+]
+
+-- the mark, byte by byte
+pub starts-mark : (s : List ℕ) → 3 ≤ length s → starts_with eqb s mark ≡ has_mark s
+starts-mark [] h = absurd (omega arith)
+starts-mark (x ∷ []) h = absurd (omega arith)
+starts-mark (x ∷ y ∷ []) h = absurd (omega arith)
+starts-mark (x ∷ y ∷ z ∷ s) h = rw (eqb-swap x 0x50, eqb-swap y 0x49, eqb-swap z 0x4e) (both (eqb 0x50 x) (eqb 0x49 y) (eqb 0x4e z))
+  where
+    both : (p q r : Bool) → p && (q && (r && true)) ≡ p && q && r
+    both true true true = refl
+    both true true false = refl
+    both true false r = refl
+    both false q r = refl
 
 module _ (s : List ℕ) where
   pub cut_short : length s < 7 → verdict (header_tests s) (pins_of s) ≡ refuses 5 0
@@ -63,16 +93,16 @@ module _ (s : List ℕ) where
 -- ---- the levels, test by test
 
 -- one level's, by its code and by whether it is as long as its values need
-module _ (level count code bytes : ℕ) where
-  pub entry-refused : kind_of code ≡ Refused → verdict (entry_tests level count code bytes) level ≡ refuses 8 level
+module _ {A : Type 0} (level count code bytes : ℕ) (a : A) where
+  pub entry-refused : kind_of code ≡ Refused → verdict (entry_tests level count code bytes) a ≡ refuses 8 level
   unfolding verdict test
   entry-refused e = rw e
 
-  pub entry-other-length : (w : ℕ) → kind_of code ≡ Fixed w → (bytes ≡ bytes_for (count * w) → ⊥) → verdict (entry_tests level count code bytes) level ≡ refuses 23 level
+  pub entry-other-length : (w : ℕ) → kind_of code ≡ Fixed w → (bytes ≡ bytes_for (count * w) → ⊥) → verdict (entry_tests level count code bytes) a ≡ refuses 23 level
   unfolding verdict test
   entry-other-length w e n = rw (e, ne_eqb bytes (bytes_for (count * w)) n)
 
-  pub entry-passes : is_exact (kind_of code) count bytes ≡ true → verdict (entry_tests level count code bytes) level ≡ gives level
+  pub entry-passes : is_exact (kind_of code) count bytes ≡ true → verdict (entry_tests level count code bytes) a ≡ gives a
   unfolding verdict test
   entry-passes e = rw (known (kind_of code) e, e)
     where
@@ -88,16 +118,16 @@ module _ {A : Type 0} (s : List ℕ) (ts : List Test) (a : A) where
   entries-end k d e = rw e
 
   -- the tests of a level, then those of the levels below it
-  pub entries-step : (k d : ℕ) → verdict (entries_tests s (suc k) d ++ ts) a ≡ after (verdict (entry_tests_at s d) (suc d)) (λ _. verdict (entries_tests s k (suc d) ++ ts) a)
+  pub entries-step : (k d : ℕ) → verdict (entries_tests s (suc k) d ++ ts) a ≡ after (verdict (entry_tests_at s d) (tt {0})) (λ _. verdict (entries_tests s k (suc d) ++ ts) a)
   unfolding entries_tests
-  entries-step k d = outcome-laws.append (entry_tests_at s d) (entries_tests s k (suc d) ++ ts) a (suc d)
+  entries-step k d = outcome-laws.append (entry_tests_at s d) (entries_tests s k (suc d) ++ ts) a (tt {0})
 
   -- of h levels
-  pub entries_next : (h d : ℕ) → d < h → (o : Outcome ℕ) → verdict (entry_tests (d + 1) (count_of (pins_of s) d) (code_at s d) (length_at s d)) (d + 1) ≡ o
+  pub entries_next : (h d : ℕ) → d < h → (o : Test) → verdict (entry_tests (d + 1) (count_of (pins_of s) d) (code_at s d) (length_at s d)) (tt {0}) ≡ o
       → verdict (entries_tests s (h - d) d ++ ts) a ≡ after o (λ _. verdict (entries_tests s (h - (d + 1)) (d + 1) ++ ts) a)
   entries_next h d l o e =
       let one : h - d ≡ suc (h - (d + 1)) = omega arith in
-      rw (one, ← e) (entries-step (h - (d + 1)) d ∙ ap (λ (i : ℕ). after (verdict (entry_tests i (count_of (pins_of s) d) (code_at s d) (length_at s d)) i) (λ _. verdict (entries_tests s (h - (d + 1)) i ++ ts) a)) (sym (add-one d)))
+      rw (one, ← e) (entries-step (h - (d + 1)) d ∙ ap (λ (i : ℕ). after (verdict (entry_tests i (count_of (pins_of s) d) (code_at s d) (length_at s d)) (tt {0})) (λ _. verdict (entries_tests s (h - (d + 1)) i ++ ts) a)) (sym (add-one d)))
 
 module _ {A : Type 0} (s : List ℕ) (a : A) where
   pub length-differs : (length_by_entries s ≡ length s → ⊥) → verdict (length_test s ∷ []) a ≡ refuses 13 0
@@ -112,6 +142,17 @@ pub opening-steps : (s : List ℕ) → opening s ≡ after (verdict (header_test
 unfolding opening
 opening-steps s = outcome-laws.append (header_tests s) (level_tests s) (levels_in s) (pins_of s)
 
--- as the code's status says
-pub opening-is : (s : List ℕ) (o : Opening) (x : Status) → opened o ≡ opening s → o.status ≡ x → opening s ≡ status_of x o.levels
-opening-is s o x e q = sym e ∙ ap (λ (y : Status). status_of y o.levels) q
+-- as the code says
+pub opening-is : (s : List ℕ) {o : Result Open CallRefusal} (x : Result Open CallRefusal) → opened o ≡ opening s → o ≡ x → opening s ≡ opened x
+opening-is s x e q = sym e ∙ ap opened q
+
+pub opened-refused : (r : Result Open CallRefusal) (x : CallRefusal) → IsErrAnd r (λ y. y ≡ x) → opened r ≡ refusal x
+opened-refused r x h = let p = err_from_is_err_and r h in rw (p.1, p.2)
+
+-- so a call answers as the opening refuses, or as it does for the levels
+module _ {B : Type 0} (s : List ℕ) (o : Result Open CallRefusal) (f : Levels → Outcome B) (e : opened o ≡ opening s) where
+  pub opening-refused : (r : Result B CallRefusal) (x : CallRefusal) → o ≡ Err x → IsErrAnd r (λ y. y ≡ x) → outcome r ≡ after (opening s) f
+  opening-refused r x is h = handed-up r x h ∙ rw (← e, is)
+
+  pub opening-given : (strip : Open) → o ≡ Ok strip → f strip.tree.levels ≡ after (opening s) f
+  opening-given strip is = rw (← e, is)

@@ -6,8 +6,8 @@ use native.Mathlib.Nat.{mul-zero, mul-suc}
 use native.Mathlib.Decide.{dec_lt}
 use native.Mathlib.Numerals.{add-one}
 use native.Mathlib.Omega.{arith}
-use lib.ListN.{length, take, drop, replicate, length-append, length-take, length-drop, length-replicate, drop_of_length-le}
-use lib.Seq.{length-take-le, take_all, drop-drop}
+use lib.ListN.{length, take, drop, length-append, length-take, length-drop, drop_of_length-le}
+use lib.Seq.{take_all, drop-drop}
 use borrow.Rule.Slice.PartMut.{mid_of, put_mid}
 use Rattle.codes.specs.Lists.{replaced}
 use Rattle.codes.proofs.Promises.{list-laws}
@@ -68,11 +68,3 @@ lent_written out a p h =
     let all : take (length out - a) (drop a out) ≡ drop a out = take_all (length out - a) (drop a out) (rw (length-drop a out) (omega arith)) in
     let none : drop (length out - a) (drop a out) ≡ [] = drop_of_length-le (drop a out) {i = length out - a} (rw (length-drop a out) (omega arith)) in
     rw (all, none, drop-drop (length p) a out, append-nil (p ++ drop (a + length p) out)) (sym (append_assoc (take a out) p (drop (a + length p) out)))
-
--- ---- the front of a new array
-
-pub new-room : (k n : ℕ) → n ≤ k → n ≤ length (replicate {A = ℕ} k 0)
-new-room k n h = rw length-replicate h
-
-pub new-front : (k n : ℕ) → n ≤ k → n ≡ length (take n (replicate {A = ℕ} k 0))
-new-front k n h = sym (length-take-le n (replicate {A = ℕ} k 0) (new-room k n h))

@@ -2,7 +2,7 @@
 use mathlib.Core.Path.{◌≡◌, refl, sym, ap, ◌∙◌}
 use mathlib.Core.Bool.{Bool, true, false, cond}
 use mathlib.Core.List.{List}
-use mathlib.Core.Option as Option
+use Rattle.std.specs.Prelude.{Some, None}
 use Prim.Native.Nat.{ℕ, suc, ◌-◌, ◌^◌, ◌≤◌, ◌<◌}
 use native.Mathlib.Decide.{dec_lt}
 use native.Mathlib.Omega.{arith}
@@ -115,15 +115,15 @@ time-opens = record { access = λ s i f. access s i f (opening s); step = λ s i
     access s i f (gives levels) e = opens-some s i levels f e
     access s i f (refuses r c) e = absurd (outcome-laws.never (sym e))
 
-    step : (s : List ℕ) (i : ℕ) (f : Found) (o : Outcome Levels) → after o (step_in s i) ≡ gives (Option.some f) → (f.value < 2 ^ 32) × (1 ≤ f.nodes)
+    step : (s : List ℕ) (i : ℕ) (f : Found) (o : Outcome Levels) → after o (step_in s i) ≡ gives (Some f) → (f.value < 2 ^ 32) × (1 ≤ f.nodes)
     step s i f (refuses r c) e = absurd (outcome-laws.never (sym e))
     step s i f (gives levels) e = go (leb levels.pins i) (access_in s i levels) refl e
       where
-        go : (b : Bool) (a : Outcome Found) → access_in s i levels ≡ a → cond b (gives Option.none) (after a (λ g. gives (Option.some g))) ≡ gives (Option.some f) → (f.value < 2 ^ 32) × (1 ≤ f.nodes)
+        go : (b : Bool) (a : Outcome Found) → access_in s i levels ≡ a → cond b (gives None) (after a (λ g. gives (Some g))) ≡ gives (Some f) → (f.value < 2 ^ 32) × (1 ≤ f.nodes)
         go true a p q = absurd (let z : ◌≡◌ {A = ℕ} 0 1 = cc in omega arith)
         go false (gives g) p q = opens-some s i levels f (p ∙ ap gives (same q))
           where
-            same : gives (Option.some g) ≡ gives (Option.some f) → g ≡ f
+            same : gives (Some g) ≡ gives (Some f) → g ≡ f
             same h = cc
         go false (refuses r c) p q = absurd (outcome-laws.never (sym q))
 

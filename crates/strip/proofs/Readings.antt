@@ -1,8 +1,8 @@
 -- Check and repeat, position by position, by the list that they read and by what ends it.
 use mathlib.Core.Path.{◌≡◌, refl, sym, ap, ◌∙◌}
-use mathlib.Core.Bool.{Bool, true, false, not, cond}
+use mathlib.Core.Bool.{Bool, true, false, cond}
 use mathlib.Core.List.{List, [], ◌∷◌, ◌++◌}
-use mathlib.Core.Option.{Option, none, some}
+use Rattle.std.specs.Prelude.{Option, None, Some}
 use Prim.Native.Nat.{ℕ, zero, suc, ◌+◌, ◌-◌, ◌≤◌, ◌<◌}
 use native.Mathlib.Nat.{zero-add}
 use native.Mathlib.Numerals.{add-one}
@@ -16,9 +16,9 @@ use Rattle.tree.specs.Lists.{ordered}
 use Rattle.tree.specs.declared.walking.Found.{Found}
 use Rattle.tree.specs.Outcomes.{Outcome, gives, refuses, after, Test, test, verdict}
 use Rattle.tree.specs.Listing.{accesses, times_from, stop_from, times_all, stop_all}
-use Rattle.strip.specs.Lists.{first_lower, gap_from, first_gap}
+use Rattle.strip.specs.Lists.{gap_from, first_gap}
 use Rattle.strip.specs.Calls.{time_at, position_test, positions_tests, list_in, image_test, check_in, near_at, repeat_from}
-use Rattle.strip.specs.Read.{first_near, gap_or}
+use Rattle.strip.specs.Read.{first_near, gap_or, falls_test}
 use Rattle.strip.proofs.Gaps.{near-here, near-later, near-one, near-some, near-positive, near-at, lower-near, not-ordered, is-ordered}
 
 -- what follows an outcome that follows another
@@ -28,20 +28,20 @@ after-after (refuses r c) f g = refl
 
 -- what repeat answers after its last position, where no gap is too short
 abbrev pub ending : Test → Outcome (Option ℕ)
-ending stop = after stop (λ _. gives none)
+ending stop = after stop (λ _. gives None)
 
 -- ---- repeat
 
 -- position q of a list whose first position is i
 abbrev gap_here : ℕ → List ℕ → ℕ → Outcome (Option ℕ)
-gap_here i xs q = cond (ltb (get_or xs q 0) (get_or xs (q - 1) 0)) (refuses 11 (i + q)) (gives (some (i + q)))
+gap_here i xs q = cond (ltb (get_or xs q 0) (get_or xs (q - 1) 0)) (refuses 11 (i + q)) (gives (Some (i + q)))
 
 abbrev gaps_from : ℕ → ℕ → List ℕ → Outcome (Option ℕ) → Outcome (Option ℕ)
 gaps_from r i xs end = cond (ltb (first_near r xs) (length xs)) (gap_here i xs (first_near r xs)) end
 
 module _ (r i x y : ℕ) (ys : List ℕ) (end : Outcome (Option ℕ)) where
   -- the second position is the one
-  gaps-here : y < x + r → gaps_from r i (x ∷ y ∷ ys) end ≡ cond (ltb y x) (refuses 11 (suc i)) (gives (some (suc i)))
+  gaps-here : y < x + r → gaps_from r i (x ∷ y ∷ ys) end ≡ cond (ltb y x) (refuses 11 (suc i)) (gives (Some (suc i)))
   gaps-here h = rw (near-here r x y ys h, lt-ltb 1 (suc (suc (length ys))) (omega arith), add-one i)
 
   -- or a later one
@@ -81,8 +81,8 @@ module _ (answer : ℕ → Outcome Found) (r : ℕ) where
       ]
         where
           here : Dec (g.value < f.value) → g.value < f.value + r
-              → after (test (ltb g.value f.value) 11 (suc i)) (λ _. cond (ltb (g.value - f.value) r) (gives (some (suc i))) (repeat_from answer r k (suc (suc i))))
-              ≡ cond (ltb g.value f.value) (refuses 11 (suc i)) (gives (some (suc i)))
+              → after (test (ltb g.value f.value) 11 (suc i)) (λ _. cond (ltb (g.value - f.value) r) (gives (Some (suc i))) (repeat_from answer r k (suc (suc i))))
+              ≡ cond (ltb g.value f.value) (refuses 11 (suc i)) (gives (Some (suc i)))
           here (yes h) n = rw (lt-ltb g.value f.value h)
           here (no h) n = rw (le-ltb g.value f.value (omega arith), lt-ltb (g.value - f.value) r (omega arith))
 
@@ -97,14 +97,14 @@ module _ (answer : ℕ → Outcome Found) (r : ℕ) where
 
 -- the position that is given, which position 0 never is
 abbrev pub position_or1 : Outcome (Option ℕ) → ℕ
-position_or1 (gives none) = 1
-position_or1 (gives (some i)) = i
+position_or1 (gives None) = 1
+position_or1 (gives (Some i)) = i
 position_or1 (refuses r c) = 1
 
 pub repeat-positive : (answer : ℕ → Outcome Found) (r k : ℕ) → 1 ≤ position_or1 (repeat_from answer r k 0)
 repeat-positive answer r k = rw (repeat-lists answer r k) (at-end (stop_from answer k 0) (times_from answer k 0))
   where
-    here : (lower : Bool) (q : ℕ) → 1 ≤ q → 1 ≤ position_or1 (cond lower (refuses 11 q) (gives (some q)))
+    here : (lower : Bool) (q : ℕ) → 1 ≤ q → 1 ≤ position_or1 (cond lower (refuses 11 q) (gives (Some q)))
     here true q h = omega arith
     here false q h = h
 
@@ -121,21 +121,21 @@ repeat-positive answer r k = rw (repeat-lists answer r k) (at-end (stop_from ans
     ]
 
 -- in an ordered list no time is lower
-gaps-ordered : (r i : ℕ) (xs : List ℕ) → T (ordered xs) → gaps_from r i xs (gives none) ≡ gives (gap_from r i xs)
+gaps-ordered : (r i : ℕ) (xs : List ℕ) → T (ordered xs) → gaps_from r i xs (gives None) ≡ gives (gap_from r i xs)
 unfolding ordered first_near gap_from
 gaps-ordered r i [] o = refl
 gaps-ordered r i (x ∷ []) o = refl
 gaps-ordered r i (x ∷ y ∷ ys) o = elim (dec_lt y x) [
   | yes l ↦ absurd (rw (lt-leb x y l) at o)
   | no l ↦ elim (dec_lt y (x + r)) [
-    | yes n ↦ gaps-here r i x y ys (gives none) n ∙ rw (le-ltb y x (omega arith), lt-ltb (y - x) r (omega arith))
+    | yes n ↦ gaps-here r i x y ys (gives None) n ∙ rw (le-ltb y x (omega arith), lt-ltb (y - x) r (omega arith))
     | no n ↦
-        gaps-later r i x y ys (gives none) (omega arith)
+        gaps-later r i x y ys (gives None) (omega arith)
         ∙ rw (le-ltb (y - x) r (omega arith)) (gaps-ordered r (suc i) (y ∷ ys) (rw (le-leb x y (omega arith)) at o))
   ]
 ]
 
-pub gap-ordered : (r : ℕ) (xs : List ℕ) → T (ordered xs) → gap_or r xs (gives none) ≡ gives (first_gap r xs)
+pub gap-ordered : (r : ℕ) (xs : List ℕ) → T (ordered xs) → gap_or r xs (gives None) ≡ gives (first_gap r xs)
 gap-ordered r xs o = rw (zero-add (first_near r xs)) at (gaps-ordered r 0 xs o)
 
 -- ---- check
@@ -156,10 +156,6 @@ module _ (answer : ℕ → Outcome Found) {A : Type 0} (rest : List Test) (a : A
       go (gives u) e = e
       go (refuses r c) e = refl
 
--- 11 for the times of the positions from 0 on
-abbrev pub falls_test : List ℕ → Test
-falls_test xs = test (not (ordered xs)) 11 (first_lower xs)
-
 pub falls-first : {A : Type 0} (xs : List ℕ) (end : Outcome (Option ℕ)) (f : Option ℕ → Outcome A) → after (gap_or 0 xs end) f ≡ after (falls_test xs) (λ _. after end f)
 unfolding test
 falls-first xs end f = elim (dec_lt (first_near 0 xs) (length xs)) [
@@ -176,4 +172,4 @@ check-lists s levels =
     check-repeats (accesses levels s) (image_test s levels ∷ []) levels.pins levels.pins 0
     ∙ ap (λ (o : Outcome (Option ℕ)). after o (λ _. last)) (repeat-lists (accesses levels s) 0 levels.pins)
     ∙ falls-first (times_all levels s) (ending (stop_all levels s)) (λ _. last)
-    ∙ ap (λ (o : Outcome ℕ). after (falls_test (times_all levels s)) (λ _. o)) (after-after (stop_all levels s) (λ _. gives none) (λ _. last))
+    ∙ ap (λ (o : Outcome ℕ). after (falls_test (times_all levels s)) (λ _. o)) (after-after (stop_all levels s) (λ _. gives None) (λ _. last))

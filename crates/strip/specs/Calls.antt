@@ -1,6 +1,5 @@
 -- What the calls answer, and what they leave in the memory that they are lent.
-use Rattle.std.specs.Prelude.{Bool, false, not, cond, List, [], ◌∷◌, ◌++◌, ℕ, zero, suc, ◌-◌, ◌^◌, eqb, ltb, leb, length}
-use Rattle.std.proofs.Math.Option.{Option, none, some}
+use Rattle.std.specs.Prelude.{Bool, false, not, cond, List, [], ◌∷◌, ◌++◌, ℕ, zero, suc, ◌-◌, ◌^◌, eqb, ltb, leb, length, Option, Some, None}
 use Rattle.codes.specs.Lists.{same, at_front}
 use Rattle.tree.specs.declared.nodes.Levels.{Levels}
 use Rattle.tree.specs.Lists.{ordered}
@@ -10,21 +9,8 @@ use Rattle.tree.specs.Times.{times_in}
 use Rattle.tree.specs.Walks.{found, search_answer}
 use Rattle.tree.specs.Sweeps.{sweep_answer, sweep_positions}
 use Rattle.tree.specs.Listing.{accesses, times_all}
-use Rattle.strip.specs.declared.strip.Packed.{Packed}
-use Rattle.strip.specs.declared.strip.Packed.TheVariants as packing
-use Rattle.strip.specs.declared.strip.Walked.{Walked}
-use Rattle.strip.specs.declared.strip.Walked.TheVariants as walking
-use Rattle.strip.specs.declared.strip.Swept.{Swept}
-use Rattle.strip.specs.declared.strip.Swept.TheVariants as sweeping
-use Rattle.strip.specs.declared.strip.Checked.{Checked}
-use Rattle.strip.specs.declared.strip.Checked.TheVariants as check
-use Rattle.strip.specs.declared.strip.Repeated.{Repeated}
-use Rattle.strip.specs.declared.strip.Repeated.TheVariants as repeat
-use Rattle.strip.specs.declared.walker.Stepped.{Stepped}
-use Rattle.strip.specs.declared.walker.Stepped.TheVariants as step
 use Rattle.strip.specs.declared.walker.Walker.{Walker}
 use Rattle.strip.specs.Lists.{first_lower}
-use Rattle.strip.specs.Refusals.{refusal}
 use Rattle.strip.specs.Layout.{max_pins}
 use Rattle.strip.specs.Image.{image}
 use Rattle.strip.specs.Opening.{opening}
@@ -60,11 +46,6 @@ written o entries out = follow (λ r c. out) o (λ n. at_front entries out)
 unfoldable pub pack_output : List ℕ → List ℕ → List ℕ
 pack_output xs out = written (pack_of xs (length out)) (image xs) out
 
--- the answer of the code
-abbrev pub packed : Packed → Outcome ℕ
-packed (packing.Length n) = gives n
-packed (packing.Refused r) = refusal r
-
 -- ---- access, search, up-to
 
 -- 14, then fetches from the root to rank i
@@ -91,11 +72,6 @@ up_to_in s t levels = cond (eqb t (2 ^ 32 - 1)) (gives (found levels.pins 0)) (s
 unfoldable pub up_to_of : List ℕ → ℕ → Outcome Found
 up_to_of s t = after (opening s) (up_to_in s t)
 
--- of access, search and up-to
-abbrev pub walked : Walked → Outcome Found
-walked (walking.Found f) = gives f
-walked (walking.Refused r) = refusal r
-
 -- ---- sweep
 
 -- 15, 16
@@ -118,10 +94,6 @@ sweep_over s ts answers levels =
 
 unfoldable pub sweep_output : List ℕ → List ℕ → List ℕ → List ℕ
 sweep_output s ts answers = follow (λ r c. answers) (opening s) (sweep_over s ts answers)
-
-abbrev pub swept : Swept → Outcome ℕ
-swept (sweeping.Nodes k) = gives k
-swept (sweeping.Refused r) = refusal r
 
 -- ---- check and unpack
 
@@ -175,11 +147,6 @@ unpack_of s room = after (check_of s) (room_for room)
 unfoldable pub unpack_output : List ℕ → List ℕ → List ℕ
 unpack_output s out = written (unpack_of s (length out)) (plain_list s) out
 
--- of check and of unpack
-abbrev pub checked : Checked → Outcome ℕ
-checked (check.Pins n) = gives n
-checked (check.Refused r) = refusal r
-
 -- ---- repeat
 
 -- the time at a position, less the one before, is below r
@@ -189,23 +156,18 @@ near_at time r (suc i) = ltb (time (suc i) - time i) r
 
 -- at each of k positions from i on: access's refusal, then 11, then the test of r, whose first position is given; or none
 unfoldable pub repeat_from : (ℕ → Outcome Found) → ℕ → ℕ → ℕ → Outcome (Option ℕ)
-repeat_from answer r zero i = gives none
-repeat_from answer r (suc k) i = after (position_test answer i) (λ _. cond (near_at (time_at answer) r i) (gives (some i)) (repeat_from answer r k (suc i)))
+repeat_from answer r zero i = gives None
+repeat_from answer r (suc k) i = after (position_test answer i) (λ _. cond (near_at (time_at answer) r i) (gives (Some i)) (repeat_from answer r k (suc i)))
 
 -- repeat r, which opens first
 unfoldable pub repeat_of : List ℕ → ℕ → Outcome (Option ℕ)
 repeat_of s r = after (opening s) (λ levels. repeat_from (accesses levels s) r levels.pins 0)
 
-abbrev pub repeated : Repeated → Outcome (Option ℕ)
-repeated (repeat.First i) = gives (some i)
-repeated repeat.None = gives none
-repeated (repeat.Refused r) = refusal r
-
 -- ---- pin walker
 
--- end, which is `none`, at n or beyond, otherwise access there
+-- end, which is `None`, at n or beyond, otherwise access there
 abbrev pub step_in : List ℕ → ℕ → Levels → Outcome (Option Found)
-step_in s i levels = cond (leb levels.pins i) (gives none) (after (access_in s i levels) (λ f. gives (some f)))
+step_in s i levels = cond (leb levels.pins i) (gives None) (after (access_in s i levels) (λ f. gives (Some f)))
 
 -- a step at next position i, which opens first
 unfoldable pub step_of : List ℕ → ℕ → Outcome (Option Found)
@@ -213,18 +175,13 @@ step_of s i = after (opening s) (step_in s i)
 
 -- moves on by one; end and refusals do not move it
 abbrev pub moved_by : Outcome (Option Found) → ℕ → ℕ
-moved_by (gives (some f)) i = suc i
-moved_by (gives none) i = i
+moved_by (gives (Some f)) i = suc i
+moved_by (gives None) i = i
 moved_by (refuses r c) i = i
 
 -- the next position after that step
 unfoldable pub next_of : List ℕ → ℕ → ℕ
 next_of s i = moved_by (step_of s i) i
-
-abbrev pub stepped : Stepped → Outcome (Option Found)
-stepped (step.Found f) = gives (some f)
-stepped step.End = gives none
-stepped (step.Refused r) = refusal r
 
 -- what a step of a walker says
 abbrev pub walker_step : Walker → Outcome (Option Found)

@@ -1,7 +1,6 @@
 -- What the project demands of the calls together, each demand one statement, and what a pin walker says of an accepted strip. Demand 1 is
 -- the contracts of the calls themselves. proofs/Demands proves demand 2 as `demand-2`, demand 3 as `demand-3` and the last as `walker-lists`.
-use Rattle.std.specs.Prelude.{◌≡◌, ◌↔◌, List, ℕ, ◌*◌, ◌≤◌, ◌<◌, T, length, get_or}
-use Rattle.std.proofs.Math.Option.{none, some}
+use Rattle.std.specs.Prelude.{◌≡◌, ◌↔◌, List, ℕ, ◌*◌, ◌≤◌, ◌<◌, T, length, get_or, Result, Ok, None, Some}
 use Rattle.codes.specs.Lists.{at_front}
 use Rattle.codes.specs.Codes.{kind_of, Within, Holds}
 use Rattle.codes.specs.Choice.{size}
@@ -15,18 +14,13 @@ use Rattle.tree.specs.Times.{times_in}
 use Rattle.tree.specs.Walks.{found, toward, path}
 use Rattle.tree.specs.Sweeps.{different}
 use Rattle.tree.specs.Promises.{Shape}
-use Rattle.strip.specs.declared.strip.Packed.{Packed}
-use Rattle.strip.specs.declared.strip.Packed.TheVariants as packing
-use Rattle.strip.specs.declared.strip.Checked.{Checked}
-use Rattle.strip.specs.declared.strip.Checked.TheVariants as checking
-use Rattle.strip.specs.declared.strip.Walked.{Walked}
-use Rattle.strip.specs.declared.strip.Walked.TheVariants as walking
-use Rattle.strip.specs.declared.strip.Swept.{Swept}
-use Rattle.strip.specs.declared.strip.Swept.TheVariants as sweeping
+use Rattle.tree.specs.declared.walking.Found.{Found}
+use Rattle.strip.specs.declared.refusals.Refusal.{Refusal}
 use Rattle.strip.specs.declared.walker.Walker.{Walker}
+use Rattle.strip.specs.Refusals.{outcome}
 use Rattle.strip.specs.Image.{Packable, image}
 use Rattle.strip.specs.Opening.{opening}
-use Rattle.strip.specs.Calls.{pack_of, pack_output, packed, search_of, walked, sweep_of, sweep_output, swept, check_of, checked, plain_list, unpack_of, unpack_output, walker_step, walker_after_steps}
+use Rattle.strip.specs.Calls.{pack_of, pack_output, search_of, sweep_of, sweep_output, check_of, plain_list, unpack_of, unpack_output, walker_step, walker_after_steps}
 
 -- A list packs to a strip in an output: pack gives the strip's length and leaves the strip at the front, with the later bytes as they were.
 abbrev pub PacksTo : List ℕ → List ℕ → List ℕ → Type 0
@@ -61,26 +55,26 @@ CheckAccepts s = (n : ℕ) × (check_of s ≡ gives n)
 pub record Demand2 : Type 0 where
   -- every ordered list of 1 to 65,535 times packs, given an output long enough, and whatever that holds
   pub packs : (xs : List ℕ) → Packable xs → (out : List ℕ) → length (image xs) ≤ length out → PacksTo xs (image xs) out
-  pub code_packs : (xs : List ℕ) → Packable xs → (out : List ℕ) → length (image xs) ≤ length out → (r : Packed) (after : List ℕ) → packed r ≡ pack_of xs (length out)
-      → after ≡ pack_output xs out → (r ≡ packing.Length (length (image xs))) × (after ≡ at_front (image xs) out)
+  pub code_packs : (xs : List ℕ) → Packable xs → (out : List ℕ) → length (image xs) ≤ length out → (r : Result ℕ Refusal) (after : List ℕ) → outcome r ≡ pack_of xs (length out)
+      → after ≡ pack_output xs out → (r ≡ Ok (length (image xs))) × (after ≡ at_front (image xs) out)
   -- to one strip, which does not depend on the output
   pub one_strip : (xs s out : List ℕ) → PacksTo xs s out → s ≡ image xs
   -- with every level in the code with fewest bits
   pub fewest_bits : (xs : List ℕ) → Packable xs → (levels : Levels) × FewestBits xs (image xs) levels
   -- and that strip unpacks to the list
   pub unpacks : (xs : List ℕ) → Packable xs → (out : List ℕ) → length xs ≤ length out → UnpacksTo (image xs) xs out
-  pub code_unpacks : (xs : List ℕ) → Packable xs → (out : List ℕ) → length xs ≤ length out → (r : Checked) (after : List ℕ) → checked r ≡ unpack_of (image xs) (length out)
-      → after ≡ unpack_output (image xs) out → (r ≡ checking.Pins (length xs)) × (after ≡ at_front xs out)
+  pub code_unpacks : (xs : List ℕ) → Packable xs → (out : List ℕ) → length xs ≤ length out → (r : Result ℕ Refusal) (after : List ℕ) → outcome r ≡ unpack_of (image xs) (length out)
+      → after ≡ unpack_output (image xs) out → (r ≡ Ok (length xs)) × (after ≡ at_front xs out)
   -- check accepts a strip exactly when some list packs to it, and gives its pin count
   pub accepts : (s : List ℕ) → CheckAccepts s ↔ Accepted s
-  pub code_accepts : (s : List ℕ) (r : Checked) → checked r ≡ check_of s → ((n : ℕ) × (r ≡ checking.Pins n)) ↔ Accepted s
+  pub code_accepts : (s : List ℕ) (r : Result ℕ Refusal) → outcome r ≡ check_of s → ((n : ℕ) × (r ≡ Ok n)) ↔ Accepted s
   pub pin_count : (s : List ℕ) → Accepted s → check_of s ≡ gives (length (plain_list s))
   -- that list is an ordered one of 1 to 65,535 times, and the only one: the strip's plain list
   pub one_list : (s xs out : List ℕ) → Within 32 xs → PacksTo xs s out → Packable xs × (xs ≡ plain_list s)
   -- on an accepted strip no search is refused, and search gives the number of strikes earlier than its target
   pub searches : (s : List ℕ) → Accepted s → (t : ℕ) → search_of s t ≡ gives (found (smaller t (plain_list s)) (length (path (plain_list s) t)))
-  pub code_searches : (s : List ℕ) → Accepted s → (t : ℕ) (r : Walked) → walked r ≡ search_of s t
-      → r ≡ walking.Found (found (smaller t (plain_list s)) (length (path (plain_list s) t)))
+  pub code_searches : (s : List ℕ) → Accepted s → (t : ℕ) (r : Result Found Refusal) → outcome r ≡ search_of s t
+      → r ≡ Ok (found (smaller t (plain_list s)) (length (path (plain_list s) t)))
 
 -- ---- demand 3
 
@@ -103,8 +97,8 @@ pub record Demand3 : Type 0 where
       → (nodes : ℕ) × (sweep_of s ts (length answers) ≡ gives nodes) × SweepsAs s ts nodes (sweep_output s ts answers)
   -- and so does the code: any answer, with the answers left, that meets the contract of `Strip::sweep`
   pub code_sweeps : (s ts answers : List ℕ) → Accepted s → T (ordered ts) → length answers ≡ length ts
-      → (r : Swept) (after : List ℕ) → swept r ≡ sweep_of s ts (length answers) → after ≡ sweep_output s ts answers
-      → (nodes : ℕ) × (r ≡ sweeping.Nodes nodes) × SweepsAs s ts nodes after
+      → (r : Result ℕ Refusal) (after : List ℕ) → outcome r ≡ sweep_of s ts (length answers) → after ≡ sweep_output s ts answers
+      → (nodes : ℕ) × (r ≡ Ok nodes) × SweepsAs s ts nodes after
 
 -- ---- the pin walker
 
@@ -112,5 +106,5 @@ pub record Demand3 : Type 0 where
 -- opens. Every step after them says end.
 pub record WalkerLists : Type 0 where
   pub times : (w : Walker) → w.next ≡ 0 → Accepted w.strip.now → (k : ℕ) → k < length (plain_list w.strip.now)
-      → walker_step (walker_after_steps k w) ≡ gives (some (found (get_or (plain_list w.strip.now) k 0) (length (toward (length (plain_list w.strip.now)) k))))
-  pub ends : (w : Walker) → w.next ≡ 0 → Accepted w.strip.now → (k : ℕ) → length (plain_list w.strip.now) ≤ k → walker_step (walker_after_steps k w) ≡ gives none
+      → walker_step (walker_after_steps k w) ≡ gives (Some (found (get_or (plain_list w.strip.now) k 0) (length (toward (length (plain_list w.strip.now)) k))))
+  pub ends : (w : Walker) → w.next ≡ 0 → Accepted w.strip.now → (k : ℕ) → length (plain_list w.strip.now) ≤ k → walker_step (walker_after_steps k w) ≡ gives None

@@ -7,10 +7,6 @@ use Rattle.tree.specs.Shape.{height}
 abbrev pub max_pins : ℕ
 max_pins = 65535
 
--- the most pins of a short list, which is worked on in short arrays
-abbrev pub short_pins : ℕ
-short_pins = 1023
-
 abbrev pub max_height : ℕ
 max_height = 16
 

@@ -1,7 +1,6 @@
 -- 01's marked cases, the examples of its table of refusals, and those of 23 (02), computed. The example of 2, a list of 65,536, is too long for it and
 -- stands beside `marked-says`.
-use Rattle.std.specs.Prelude.{Bool, true, false, ◌&&◌, ◌≡◌, refl, List, [], ◌∷◌, ◌++◌, ℕ, ◌+◌, eqb, length, take, set, replicate}
-use Rattle.std.proofs.Math.Option.{Option, none, some}
+use Rattle.std.specs.Prelude.{Bool, true, false, ◌&&◌, ◌≡◌, refl, List, [], ◌∷◌, ◌++◌, ℕ, ◌+◌, eqb, length, take, set, replicate, Option, None, Some}
 use Rattle.codes.specs.Lists.{same}
 use Rattle.codes.specs.Bits.{bits, number, sum, fixed, numbers, padded}
 use Rattle.codes.specs.Codes.{kind_of, rest, layers, kind_bits}
@@ -96,17 +95,17 @@ marked =
     -- 9
     ∷ root 1 1 ∷ root 2 2 ∷ root 3 2 ∷ root 4 3 ∷ root 5 4 ∷ root 6 4
     -- 10
-    ∷ repeats a 150 (gives (some 2)) ∷ repeats a 0 (gives none)
+    ∷ repeats a 150 (gives (Some 2)) ∷ repeats a 0 (gives None)
     -- A and B are accepted, and A unpacks, with an entry more than is needed
     ∷ checks a (gives 5) ∷ checks b (gives 1) ∷ unpacks a (replicate 6 7) (gives 5) (list_a ++ (7 ∷ []))
     -- list A by access
     ∷ accesses a 0 (gives (found 100 3)) ∷ accesses a 1 (gives (found 250 2)) ∷ accesses a 2 (gives (found 250 3)) ∷ accesses a 3 (gives (found 400 1)) ∷ accesses a 4 (gives (found 1000 2))
     -- list A by the steps of a pin walker, then end, there and beyond
-    ∷ steps a 0 (gives (some (found 100 3))) 1 ∷ steps a 1 (gives (some (found 250 2))) 2 ∷ steps a 2 (gives (some (found 250 3))) 3 ∷ steps a 3 (gives (some (found 400 1))) 4
-    ∷ steps a 4 (gives (some (found 1000 2))) 5 ∷ steps a 5 (gives none) 5 ∷ steps a 4294967296 (gives none) 4294967296
+    ∷ steps a 0 (gives (Some (found 100 3))) 1 ∷ steps a 1 (gives (Some (found 250 2))) 2 ∷ steps a 2 (gives (Some (found 250 3))) 3 ∷ steps a 3 (gives (Some (found 400 1))) 4
+    ∷ steps a 4 (gives (Some (found 1000 2))) 5 ∷ steps a 5 (gives None) 5 ∷ steps a 4294967296 (gives None) 4294967296
     -- a refused step does not move it; beyond the end only opening is refused, and it does not look for 11
-    ∷ steps bare 0 (refuses 9 1) 0 ∷ steps low 0 (refuses 10 2) 0 ∷ steps low 2 (gives none) 2 ∷ steps (take 3 b) 7 (refuses 5 0) 7
-    ∷ steps fallen 3 (gives (some (found 400 1))) 4
+    ∷ steps bare 0 (refuses 9 1) 0 ∷ steps low 0 (refuses 10 2) 0 ∷ steps low 2 (gives None) 2 ∷ steps (take 3 b) 7 (refuses 5 0) 7
+    ∷ steps fallen 3 (gives (Some (found 400 1))) 4
     -- the greatest pin count has the greatest height, and one more has not
     ∷ tall max_pins max_height ∷ tall (max_pins + 1) (max_height + 1)
     -- examples of refusals 1, 3 and 4
@@ -119,8 +118,8 @@ marked =
     -- of 11 and 12, and of 4 for unpack
     ∷ checks fallen (refuses 11 3) ∷ checks wasteful (refuses 12 0) ∷ unpacks a (replicate 4 7) (refuses 4 5) (replicate 4 7)
     -- a refused check writes nothing; repeat does not look for 12, and tells 11 or the gap by what comes first
-    ∷ unpacks wasteful (7 ∷ []) (refuses 12 0) (7 ∷ []) ∷ repeats wasteful 1340 (gives none)
-    ∷ repeats fallen 150 (refuses 11 3) ∷ repeats fallen 151 (gives (some 1)) ∷ repeats low 1 (refuses 10 2)
+    ∷ unpacks wasteful (7 ∷ []) (refuses 12 0) (7 ∷ []) ∷ repeats wasteful 1340 (gives None)
+    ∷ repeats fallen 150 (refuses 11 3) ∷ repeats fallen 151 (gives (Some 1)) ∷ repeats low 1 (refuses 10 2)
     -- of 15 and 16, both after opening
     ∷ sweeps a (1 ∷ 2 ∷ []) (replicate 3 7) (refuses 15 0) (replicate 3 7) ∷ sweeps a (9 ∷ 8 ∷ []) (replicate 2 7) (refuses 16 1) (replicate 2 7)
     ∷ sweeps (take 3 b) (9 ∷ 8 ∷ []) (7 ∷ []) (refuses 5 0) (7 ∷ []) ∷ sweeps a (9 ∷ 8 ∷ []) (7 ∷ []) (refuses 15 0) (7 ∷ [])
@@ -155,10 +154,10 @@ Says (tall n h) = height n ≡ h
 -- ---- as a test that is computed
 
 abbrev pub same_option : {A : Type 0} → (A → A → Bool) → Option A → Option A → Bool
-same_option equal none none = true
-same_option equal none (some b) = false
-same_option equal (some a) none = false
-same_option equal (some a) (some b) = equal a b
+same_option equal None None = true
+same_option equal None (Some b) = false
+same_option equal (Some a) None = false
+same_option equal (Some a) (Some b) = equal a b
 
 abbrev pub same_outcome : {A : Type 0} → (A → A → Bool) → Outcome A → Outcome A → Bool
 same_outcome equal (gives a) (gives b) = equal a b

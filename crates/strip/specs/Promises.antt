@@ -1,7 +1,6 @@
 -- What is shown of strips besides each call's contract and the demands. proofs/Promises proves each, as `room-enough`, `image-opens`,
 -- `round_trip`, `repeat-later`, `time-opens` and `nine-chunked`.
-use Rattle.std.specs.Prelude.{◌≡◌, cond, List, ℕ, suc, ◌+◌, ◌-◌, ◌*◌, ◌^◌, ◌≤◌, ◌<◌, eqb, leb, length, get_or}
-use Rattle.std.proofs.Math.Option.{none, some}
+use Rattle.std.specs.Prelude.{◌≡◌, cond, List, ℕ, suc, ◌+◌, ◌-◌, ◌*◌, ◌^◌, ◌≤◌, ◌<◌, eqb, leb, length, get_or, None, Some}
 use Rattle.codes.specs.Codes.{Within}
 use Rattle.tree.specs.declared.nodes.Levels.{Levels}
 use Rattle.tree.specs.Lists.{smaller}
@@ -37,19 +36,19 @@ pub record ReadsBack (xs : List ℕ) : Type 0 where
   pub search : (t : ℕ) → search_of (image xs) t ≡ gives (found (smaller t xs) (length (path xs t)))
   pub repeat : (r : ℕ) → repeat_of (image xs) r ≡ gives (first_gap r xs)
   pub up_to : (t : ℕ) → t < 2 ^ 32 → up_to_of (image xs) t ≡ gives (found (up_to t xs) (cond (eqb t (2 ^ 32 - 1)) 0 (length (path xs (suc t)))))
-  pub step : (i : ℕ) → step_of (image xs) i ≡ gives (cond (leb (length xs) i) none (some (found (get_or xs i 0) (length (toward (length xs) i)))))
+  pub step : (i : ℕ) → step_of (image xs) i ≡ gives (cond (leb (length xs) i) None (Some (found (get_or xs i 0) (length (toward (length xs) i)))))
 
 abbrev pub RoundTrip : Type 0
 RoundTrip = (xs : List ℕ) → Packable xs → ReadsBack xs
 
 -- 4. A position that repeat gives, on any strip, is 1 or more. So 0 can say none.
 abbrev pub RepeatLater : Type 0
-RepeatLater = (s : List ℕ) (r i : ℕ) → repeat_of s r ≡ gives (some i) → 1 ≤ i
+RepeatLater = (s : List ℕ) (r i : ℕ) → repeat_of s r ≡ gives (Some i) → 1 ≤ i
 
 -- 5. An access or a step that gives a time, on any strip, gives one of 32 bits and has opened a node or more. So no nodes can say end.
 pub record TimeOpens : Type 0 where
   pub access : (s : List ℕ) (i : ℕ) (f : Found) → access_of s i ≡ gives f → (f.value < 2 ^ 32) × (1 ≤ f.nodes)
-  pub step : (s : List ℕ) (i : ℕ) (f : Found) → step_of s i ≡ gives (some f) → (f.value < 2 ^ 32) × (1 ≤ f.nodes)
+  pub step : (s : List ℕ) (i : ℕ) (f : Found) → step_of s i ≡ gives (Some f) → (f.value < 2 ^ 32) × (1 ≤ f.nodes)
 
 -- 6. 9 remains for chunked levels: in any call on any bytes it carries a node of 1 to n on one, of a strip that opens.
 abbrev pub CarriesChunked : {A : Type 0} → List ℕ → Outcome A → Type 0

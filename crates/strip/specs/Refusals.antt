@@ -1,6 +1,8 @@
--- The number of 01 or 02 for each refusal of the code, and what it carries.
-use Rattle.std.specs.Prelude.{ℕ}
-use Rattle.tree.specs.Outcomes.{Outcome, refuses}
+-- The number of 01 or 02 for each refusal of the code, and what it carries; and what the answers of the code say.
+use Rattle.std.specs.Prelude.{ℕ, Result, Ok, Err}
+use Rattle.tree.specs.declared.nodes.Refusal.{Refusal as WalkRefusal}
+use Rattle.tree.specs.declared.nodes.Refusal.TheVariants as walk
+use Rattle.tree.specs.Outcomes.{Outcome, gives, refuses}
 use Rattle.strip.specs.declared.refusals.Refusal.{Refusal}
 use Rattle.strip.specs.declared.refusals.Refusal.TheVariants.{Empty, TooMany, ListFalls, Short, Cut, Mark, Version, Code, Fetch, Time, TimesFall, Image, Length, Position, Answers, TargetsFall, LevelLength}
 
@@ -45,3 +47,13 @@ carried (LevelLength level) = level
 -- as an outcome
 abbrev pub refusal : {A : Type 0} → Refusal → Outcome A
 refusal r = refuses (refusal_number r) (carried r)
+
+-- an answer of the code
+abbrev pub outcome : {A : Type 0} → Result A Refusal → Outcome A
+outcome (Ok a) = gives a
+outcome (Err r) = refusal r
+
+-- a walk's refusal as a strip's
+abbrev pub of_walk : WalkRefusal → Refusal
+of_walk (walk.Fetch v) = Fetch v
+of_walk (walk.Time v) = Time v

@@ -1,5 +1,6 @@
-// Lists of times.
-ghost use Rattle.std.specs.Prelude.{◌≡◌, true, ◌+◌, ◌≤◌, ltb, length};
+// Lists of times. The length says that there is no such position, as `first_lower` of the specs has it, on which the refusals of pack, check and
+// sweep rest. Neighbours are read by index: pairs of `windows(2)` would be no plainer.
+ghost use Rattle.std.specs.Prelude.{◌≡◌, true, ◌+◌, ltb, length};
 ghost use Rattle.strip.specs.Lists.{first_lower};
 ghost use Rattle.strip.specs.Read.{first_near};
 
@@ -7,47 +8,30 @@ ghost use Rattle.strip.specs.Read.{first_near};
 fn is_near(before: u32, time: u32, r: u32) -> bool
     ensures { result ≡ ltb time (before + r) }
 {
-    (time as u64) < before as u64 + r as u64
-}
-
-// 0 where a time is not before the one before it plus r.
-fn near_bit(before: u32, time: u32, r: u32) -> u32
-    ensures { result ≡ 0 → before + r ≤ time }
-{
-    if time < before {
-        1
-    } else {
-        if time - before < r { 1 } else { 0 }
-    }
+    time < before || time - before < r
 }
 
 // Whether no time is before the one before it plus r. All are looked at, so that the compiler takes several at once.
 fn none_near(times: &[u32], r: u32) -> bool
     ensures { result ≡ true → first_near r times.now ≡ length times.now }
 {
-    let n = times.len();
-    let mut any: u32 = 0;
-    let mut i: usize = 1;
-    while i < n {
-        any = any | near_bit(times[i - 1], times[i], r);
-        i += 1;
+    let mut any = false;
+    for i in 1..times.len() {
+        any |= is_near(times[i - 1], times[i], r);
     }
-    any == 0
+    !any
 }
 
 // The first position with a time before the one before it plus r, which is looked for.
 fn near_from_start(times: &[u32], r: u32) -> usize
     ensures { result ≡ first_near r times.now }
 {
-    let n = times.len();
-    let mut i: usize = 1;
-    while i < n {
+    for i in 1..times.len() {
         if is_near(times[i - 1], times[i], r) {
             return i;
         }
-        i += 1;
     }
-    n
+    times.len()
 }
 
 // The first position with a time before the one before it plus r, or the length.

@@ -1,4 +1,4 @@
-// Numbers of several bytes in a strip, high byte first.
+// Numbers of several bytes in a strip, high byte first. Each width has a `from_be_bytes` of its own, and no trait joins them; hence two functions.
 ghost use Rattle.std.specs.Prelude.{◌≡◌, ◌+◌, ◌^◌, ◌<◌, ◌≤◌, length};
 ghost use Rattle.strip.specs.Layout.{two_at, four_at};
 
@@ -7,9 +7,7 @@ pub(crate) fn two_at(s: &[u8], at: usize) -> usize
     requires { at + 2 ≤ length s.now }
     ensures { (result ≡ two_at s.now at) × (result < 2 ^ 16) }
 {
-    let high = s[at] as usize;
-    let low = s[at + 1] as usize;
-    high * 256 + low
+    u16::from_be_bytes([s[at], s[at + 1]]) as usize
 }
 
 // The number in four bytes from byte `at` on.
@@ -17,5 +15,5 @@ pub(crate) fn four_at(s: &[u8], at: usize) -> usize
     requires { at + 4 ≤ length s.now }
     ensures { (result ≡ four_at s.now at) × (result < 2 ^ 32) }
 {
-    two_at(s, at) * 65536 + two_at(s, at + 2)
+    u32::from_be_bytes([s[at], s[at + 1], s[at + 2], s[at + 3]]) as usize
 }

@@ -1,185 +1,186 @@
 // Check, unpack and repeat, for a strip that is open: its times are listed, in arrays that are made here, once for the call.
 ghost use Rattle.std.specs.Prelude.{◌≡◌, ◌≤◌, length};
 ghost use Rattle.codes.specs.Lists.{filled_to};
-ghost use Rattle.tree.specs.Levels.{Fits};
-ghost use Rattle.tree.specs.DecodedLevels.{Decodes};
-ghost use Rattle.strip.specs.Opened.{IsOpen};
-ghost use Rattle.strip.specs.Calls.{room_for, written, list_in};
-ghost use Rattle.strip.specs.Layout.{short_pins};
-ghost use Rattle.strip.specs.Read.{told, counted, gap_of, gap_or, image_in, end_in, list_read, read_in, read_over};
+ghost use Rattle.tree.specs.Listing.{accesses};
+ghost use Rattle.strip.specs.Refusals.{outcome};
+ghost use Rattle.strip.specs.Calls.{room_for, written, list_in, check_in, repeat_from};
+ghost use Rattle.strip.specs.Layout.{max_pins};
+ghost use Rattle.strip.specs.Read.{falls_test, gap_or, unpack_in};
 
-use super::lists::first_near;
-use super::refusals::{Refusal, of_walk};
+use super::lists::{first_lower, first_near};
+use super::open::Open;
+use super::refusals::Refusal;
 use super::strip::Strip;
-use tree::{Levels, Listed};
 
-// What is asked of the times of a strip.
-#[derive(Clone, Copy)]
-pub(crate) enum Asked {
-    Check,
-    Unpack,
-    Repeat(u32),
-}
-
-// What is told: a number, which is the pin count, or the position that repeat finds; none; or a refusal.
-#[derive(Clone, Copy)]
-pub(crate) enum Told {
-    Number(usize),
-    None,
-    Refused(Refusal),
-}
-
-// The least gap that is not too short: 0 for check and unpack, which look for times that fall alone.
-fn gap_of(asked: Asked) -> u32
-    ensures { result ≡ gap_of asked }
+// Test 11 of these times.
+fn test_order(times: &[u32]) -> Result<(), Refusal>
+    ensures { outcome result ≡ falls_test times.now }
 {
-    match asked {
-        Asked::Check => 0,
-        Asked::Unpack => 0,
-        Asked::Repeat(r) => r,
+    let lower = first_lower(times);
+    if lower < times.len() {
+        return Err(Refusal::TimesFall(lower));
     }
+    Ok(())
 }
 
 // The first position whose time is less than r after the one before; refused where that is lower. Without such a position, `end`.
-fn gap_or(times: &[u32], r: u32, end: Told) -> Told
-    ensures { told result ≡ gap_or r times.now (told end) }
+fn gap_or(
+    times: &[u32],
+    r: u32,
+    end: Result<Option<usize>, Refusal>,
+) -> Result<Option<usize>, Refusal>
+    ensures { outcome result ≡ gap_or r times.now (outcome end) }
 {
     let i = first_near(times, r);
     if i >= times.len() {
         return end;
     }
     if times[i] < times[i - 1] {
-        return Told::Refused(Refusal::TimesFall(i));
+        return Err(Refusal::TimesFall(i));
     }
-    Told::Number(i)
-}
-
-// Test 12 where every position has a time: the bytes are the image of the times where each level is what pack writes for the values that
-// it is decoded to.
-fn test_image(values: &[u32], s: &[u8], levels: Levels, decoded: bool) -> Told
-    requires { Fits levels s.now × Decodes levels s.now decoded values.now }
-    ensures { told result ≡ image_in s.now levels }
-{
-    if decoded {
-        if tree::are_chosen(values, s, levels) {
-            return Told::Number(levels.pins);
-        }
-    }
-    Told::Refused(Refusal::Image)
-}
-
-// What is told where every position has a time and no gap is too short.
-fn end_of(values: &[u32], s: &[u8], levels: Levels, decoded: bool, asked: Asked) -> Told
-    requires { Fits levels s.now × Decodes levels s.now decoded values.now }
-    ensures { told result ≡ end_in asked s.now levels }
-{
-    match asked {
-        Asked::Check => test_image(values, s, levels, decoded),
-        Asked::Unpack => test_image(values, s, levels, decoded),
-        Asked::Repeat(_) => Told::None,
-    }
-}
-
-// Lists the times and answers what is asked. For unpack that is check's answer: nothing is written yet. What `end_of` says is told only
-// where no gap is too short, so 11 goes before 12.
-fn read_list(times: &mut [u32], values: &mut [u32], s: &[u8], levels: Levels, asked: Asked) -> Told
-    requires fact { IsOpen levels s.now }
-    requires pins_value { (levels.pins ≡ length times.old) × (levels.pins ≡ length values.old) }
-    ensures result_value { told result ≡ list_read asked s.now levels }
-    ensures times_after { times.new ≡ filled_to levels.pins (list_in s.now levels) }
-{
-    let r = gap_of(asked);
-    let listing = tree::list(times, values, s, levels);
-    let listed = listing.listed;
-    match listed {
-        Listed::All => {
-            let end = end_of(values, s, levels, listing.decoded, asked);
-            gap_or(times, r, end)
-        }
-        Listed::Refused(i, why) => gap_or(&times[..i], r, Told::Refused(of_walk(why))),
-    }
+    Ok(Some(i))
 }
 
 // Writes the list to the front of the output, where there is room.
-fn put_list(out: &mut [u32], times: &[u32]) -> Told
-    ensures result_value { told result ≡ counted (room_for (length out.old) (length times.now)) }
+fn put_list(out: &mut [u32], times: &[u32]) -> Result<usize, Refusal>
+    ensures result_value { outcome result ≡ room_for (length out.old) (length times.now) }
     ensures out_after { out.new ≡ written (room_for (length out.old) (length times.now)) times.now out.old }
 {
     let n = times.len();
     if out.len() < n {
-        return Told::Refused(Refusal::Short(n));
+        return Err(Refusal::Short(n));
     }
-    codes::copy_values(out, times);
-    Told::Number(n)
+    out[..n].copy_from_slice(times);
+    Ok(n)
 }
 
-// Says what is asked, in lent arrays.
-fn read_in(
+// Calls `read` with the output and with arrays for n times and n values, which are made here.
+fn within<const N: usize, T, F: Fn(&mut [u32], &mut [u32], &mut [u32]) -> T>(
     out: &mut [u32],
-    times: &mut [u32],
-    values: &mut [u32],
-    s: &[u8],
-    levels: Levels,
-    asked: Asked,
-) -> Told
-    requires fact { IsOpen levels s.now }
-    requires pins_value { (levels.pins ≡ length times.old) × (levels.pins ≡ length values.old) }
-    ensures result_value { told result ≡ read_in asked s.now (length out.old) levels }
-    ensures out_after { out.new ≡ read_over asked s.now levels out.old }
+    n: usize,
+    read: F,
+) -> T
+    requires few { (n ≤ N) × (N ≤ max_pins) }
+    requires callable { (o t v : _) → length t.now ≡ n → length v.now ≡ n → F.pre read o t v }
+    ensures { (o t v p u w : _) × (o.now ≡ out.old) × (p.now ≡ out.new) × (length t.now ≡ n) × (length v.now ≡ n) × F.post read o t v result p u w }
 {
-    let result = read_list(times, values, s, levels, asked);
-    match asked {
-        Asked::Unpack => match result {
-            Told::Number(_) => put_list(out, times),
-            Told::None => Told::None,
-            Told::Refused(r) => Told::Refused(r),
-        },
-        Asked::Check => result,
-        Asked::Repeat(_) => result,
-    }
+    let mut times = [0u32; N];
+    let mut values = [0u32; N];
+    read(out, &mut times[..n], &mut values[..n])
 }
 
-// In short arrays, for a list of few pins.
-fn read_short(out: &mut [u32], s: &[u8], levels: Levels, asked: Asked) -> Told
-    requires { IsOpen levels s.now × (levels.pins ≤ short_pins) }
-    ensures result_value { told result ≡ read_in asked s.now (length out.old) levels }
-    ensures out_after { out.new ≡ read_over asked s.now levels out.old }
-{
-    let mut times = [0u32; Strip::SHORT_PINS];
-    let mut values = [0u32; Strip::SHORT_PINS];
-    let n = levels.pins;
-    read_in(out, &mut times[..n], &mut values[..n], s, levels, asked)
-}
-
-// In arrays for the longest list.
-fn read_long(out: &mut [u32], s: &[u8], levels: Levels, asked: Asked) -> Told
-    requires { IsOpen levels s.now }
-    ensures result_value { told result ≡ read_in asked s.now (length out.old) levels }
-    ensures out_after { out.new ≡ read_over asked s.now levels out.old }
-{
-    let mut times = [0u32; Strip::MAX_PINS];
-    let mut values = [0u32; Strip::MAX_PINS];
-    let n = levels.pins;
-    read_in(out, &mut times[..n], &mut values[..n], s, levels, asked)
-}
-
-// Says what is asked of a strip that is open. `most` tells the arrays, as in `pack_list`, which calls itself for the same reason.
-pub(crate) fn read_open(
+// The same, in short arrays where these are enough. `most` tells the arrays, as in `Tune::pack`, and it calls itself for the same reason.
+fn in_arrays<T, F: Fn(&mut [u32], &mut [u32], &mut [u32]) -> T>(
     out: &mut [u32],
-    s: &[u8],
-    levels: Levels,
-    asked: Asked,
+    n: usize,
     most: usize,
-) -> Told
-    requires { IsOpen levels s.now }
-    ensures result_value { told result ≡ read_in asked s.now (length out.old) levels }
-    ensures out_after { out.new ≡ read_over asked s.now levels out.old }
+    read: F,
+) -> T
+    requires few { n ≤ max_pins }
+    requires callable { (o t v : _) → length t.now ≡ n → length v.now ≡ n → F.pre read o t v }
+    ensures { (o t v p u w : _) × (o.now ≡ out.old) × (p.now ≡ out.new) × (length t.now ≡ n) × (length v.now ≡ n) × F.post read o t v result p u w }
 {
-    if levels.pins > most {
-        return read_open(out, s, levels, asked, Strip::MAX_PINS);
+    if n > most {
+        return in_arrays(out, n, Strip::MAX_PINS, read);
     }
     if most == Strip::SHORT_PINS {
-        return read_short(out, s, levels, asked);
+        return within::<{ Strip::SHORT_PINS }, T, F>(out, n, read);
     }
-    read_long(out, s, levels, asked)
+    within::<{ Strip::MAX_PINS }, T, F>(out, n, read)
+}
+
+impl Open<'_> {
+    // Lists the times and gives the pin count, where nothing is refused: 9, 10 and 11 by position, then 12. The bytes are the image of the
+    // times where each level is what pack writes for the values that it is decoded to.
+    //
+    // The two slices have the tree's length here and in the calls below. They are no struct: one that lends both would have to promise at
+    // each step that they are still the same.
+    fn check_list(&self, times: &mut [u32], values: &mut [u32]) -> Result<usize, Refusal>
+        requires pins_value { (self.now.tree.levels.pins ≡ length times.old) × (self.now.tree.levels.pins ≡ length values.old) }
+        ensures result_value { outcome result ≡ check_in self.now.tree.bytes.now self.now.tree.levels }
+        ensures times_after { times.new ≡ filled_to self.now.tree.levels.pins (list_in self.now.tree.bytes.now self.now.tree.levels) }
+    {
+        let listing = self.tree.list(times, values);
+        match listing.listed {
+            Ok(()) => {
+                test_order(times)?;
+                if listing.decoded && self.tree.are_chosen(values) {
+                    return Ok(self.tree.levels.pins);
+                }
+                Err(Refusal::Image)
+            }
+            Err(stop) => {
+                test_order(&times[..stop.position])?;
+                Err(Refusal::from(stop.refusal))
+            }
+        }
+    }
+
+    // Lists the times and gives the first position whose time is less than r after the one before.
+    fn repeat_list(
+        &self,
+        times: &mut [u32],
+        values: &mut [u32],
+        r: u32,
+    ) -> Result<Option<usize>, Refusal>
+        requires pins_value { (self.now.tree.levels.pins ≡ length times.old) × (self.now.tree.levels.pins ≡ length values.old) }
+        ensures { outcome result ≡ repeat_from (accesses self.now.tree.levels self.now.tree.bytes.now) r self.now.tree.levels.pins 0 }
+    {
+        match self.tree.list(times, values).listed {
+            Ok(()) => gap_or(times, r, Ok(None)),
+            Err(stop) => gap_or(&times[..stop.position], r, Err(Refusal::from(stop.refusal))),
+        }
+    }
+
+    // Check: the pin count.
+    pub(crate) fn check(&self) -> Result<usize, Refusal>
+        ensures { outcome result ≡ check_in self.now.tree.bytes.now self.now.tree.levels }
+    {
+        in_arrays(
+            &mut [],
+            self.tree.levels.pins,
+            Strip::SHORT_PINS,
+            |_out, times, values| self.check_list(times, values),
+        )
+    }
+
+    // Check, then 4: writes the list to the front of the output.
+    fn unpack_list(
+        &self,
+        out: &mut [u32],
+        times: &mut [u32],
+        values: &mut [u32],
+    ) -> Result<usize, Refusal>
+        requires pins_value { (self.now.tree.levels.pins ≡ length times.old) × (self.now.tree.levels.pins ≡ length values.old) }
+        ensures result_value { outcome result ≡ unpack_in self.now.tree.bytes.now (length out.old) self.now.tree.levels }
+        ensures out_after { out.new ≡ written (unpack_in self.now.tree.bytes.now (length out.old) self.now.tree.levels) (list_in self.now.tree.bytes.now self.now.tree.levels) out.old }
+    {
+        self.check_list(times, values)?;
+        put_list(out, times)
+    }
+
+    // Unpack: the pin count, with the list at the front of the output.
+    pub(crate) fn unpack(&self, out: &mut [u32]) -> Result<usize, Refusal>
+        ensures result_value { outcome result ≡ unpack_in self.now.tree.bytes.now (length out.old) self.now.tree.levels }
+        ensures out_after { out.new ≡ written (unpack_in self.now.tree.bytes.now (length out.old) self.now.tree.levels) (list_in self.now.tree.bytes.now self.now.tree.levels) out.old }
+    {
+        in_arrays(
+            out,
+            self.tree.levels.pins,
+            Strip::SHORT_PINS,
+            |out, times, values| self.unpack_list(out, times, values),
+        )
+    }
+
+    // Repeat: the first position whose time is less than r after the one before, or none.
+    pub(crate) fn repeat(&self, r: u32) -> Result<Option<usize>, Refusal>
+        ensures { outcome result ≡ repeat_from (accesses self.now.tree.levels self.now.tree.bytes.now) r self.now.tree.levels.pins 0 }
+    {
+        in_arrays(
+            &mut [],
+            self.tree.levels.pins,
+            Strip::SHORT_PINS,
+            |_out, times, values| self.repeat_list(times, values, r),
+        )
+    }
 }

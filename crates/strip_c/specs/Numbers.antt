@@ -1,8 +1,5 @@
 -- The answers of the calls as numbers: three, but for rank.
-use Rattle.std.proofs.Math.Option.{Option, none, some}
-use Rattle.std.specs.Prelude.{ℕ}
-use Rattle.tree.specs.declared.shape.Ranked.{Ranked}
-use Rattle.tree.specs.declared.shape.Ranked.TheVariants.{At, NoNode}
+use Rattle.std.specs.Prelude.{ℕ, Option, Some, None}
 use Rattle.tree.specs.declared.walking.Found.{Found}
 use Rattle.tree.specs.Outcomes.{Outcome, follow}
 use Rattle.strip_c.specs.declared.Answer.{Answer}
@@ -29,21 +26,21 @@ of_sweep o = follow refused o (λ k. given 0 k)
 
 -- of repeat: a position from 1 on, or 0 for none
 abbrev pub position_or0 : Option ℕ → ℕ
-position_or0 none = 0
-position_or0 (some i) = i
+position_or0 None = 0
+position_or0 (Some i) = i
 
 abbrev pub of_repeat : Outcome (Option ℕ) → Answer
 of_repeat o = follow refused o (λ x. given (position_or0 x) 0)
 
 -- of a step of a pin walker: no nodes for end, which opens none
 abbrev pub found_or0 : Option Found → Answer
-found_or0 none = given 0 0
-found_or0 (some f) = given f.value f.nodes
+found_or0 None = given 0 0
+found_or0 (Some f) = given f.value f.nodes
 
 abbrev pub of_step : Outcome (Option Found) → Answer
 of_step o = follow refused o found_or0
 
 -- of rank: a position, or n where there is no such node
-abbrev pub position_or : ℕ → Ranked → ℕ
-position_or n (At i) = i
-position_or n NoNode = n
+abbrev pub position_or : ℕ → Option ℕ → ℕ
+position_or n (Some i) = i
+position_or n None = n

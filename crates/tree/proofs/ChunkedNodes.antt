@@ -1,10 +1,5 @@
 -- 9 carries a node of a chunked level: the first node on the way down whose fetch is refused, and of a fixed level none is.
-use mathlib.Core.Path.{◌≡◌, refl}
-use mathlib.Core.Bool.{Bool, true, false, cond}
-use mathlib.Core.List.{List, [], ◌∷◌}
-use Prim.Native.Nat.{ℕ, zero, suc, ◌+◌, ◌-◌, ◌/◌, ◌%◌, ◌^◌, ◌≤◌}
-use native.Mathlib.Omega.{arith}
-use lib.Dec.{eqb, ltb}
+use Rattle.std.proofs.Common.{◌≡◌, refl, Bool, true, false, cond, List, [], ◌∷◌, ℕ, zero, suc, ◌+◌, ◌-◌, ◌/◌, ◌%◌, ◌^◌, ◌≤◌, arith, eqb, ltb}
 use Rattle.codes.specs.Fetch.{Fetched, value, outside}
 use Rattle.codes.proofs.Promises.{exact-parts}
 use Rattle.tree.specs.declared.nodes.Levels.{Levels}
@@ -58,7 +53,8 @@ module _ (levels : Levels) (s : List ℕ) (f : Fits levels s) where
       go zero v q k e = absurd (gives-refuses e)
       go (suc f) v q k e =
           let one : 1 ≤ v = some-pins v f q in
-          own v one k (node_time_in f (fetched_at levels s) (v / 2)) (fetched_at levels s v) refl (go f (v / 2) (omega (arith, height-step v one)) (omega arith)) e
+          own v one k (node_time_in f (fetched_at levels s) (v / 2)) (fetched_at levels s v) refl
+          (go f (v / 2) (omega (arith, height-step v one)) (omega arith)) e
 
   walk_refused : {A : Type 0} (vs : List ℕ) → Among levels.pins vs → (a : A) (u : ℕ) → met (times_in levels s) vs a ≡ refuses 9 u → OnChunked levels u
   unfolding met verdict Among

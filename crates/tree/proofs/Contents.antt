@@ -1,14 +1,7 @@
 -- Going down what a list's tree stores gives each node the list's time at its rank.
-use mathlib.Core.Path.{◌≡◌, ap, ◌∙◌}
-use mathlib.Core.List.{List}
-use Prim.Native.Nat.{ℕ, zero, suc, ◌+◌, ◌-◌, ◌/◌, ◌%◌, ◌^◌, ◌≤◌, ◌<◌}
-use native.Mathlib.Nat.{le_refl}
+use Rattle.std.proofs.Common.{◌≡◌, ap, ◌∙◌, List, ℕ, zero, suc, ◌+◌, ◌-◌, ◌/◌, ◌%◌, ◌^◌, ◌≤◌, ◌<◌, le_refl, arith, T, length, lt-ltb, le-ltb, ne_eqb}
 use native.Mathlib.Decide.{dec_lt, ℕ_discrete}
-use native.Mathlib.Omega.{arith}
 use lib.Arith.{half_le}
-use lib.Dec.{T}
-use lib.ListN.{length}
-use borrow.Author.Tests.{lt-ltb, le-ltb, ne_eqb}
 use Rattle.codes.specs.Codes.{Within}
 use Rattle.codes.specs.Fetch.{Fetched, value}
 use Rattle.tree.specs.Shape.{rank}
@@ -31,7 +24,8 @@ unfolding time_above
 above-child xs v h = rw (le-ltb v 2 h)
 
 -- a parent that has the list's time
-pub above_at : (xs : List ℕ) (fetch : ℕ → Fetched) (v : ℕ) → 1 ≤ v → (1 ≤ v / 2 → node_time fetch (v / 2) ≡ gives (time_of xs (v / 2))) → node_time fetch (v / 2) ≡ gives (time_above xs v)
+pub above_at : (xs : List ℕ) (fetch : ℕ → Fetched) (v : ℕ) → 1 ≤ v → (1 ≤ v / 2 → node_time fetch (v / 2) ≡ gives (time_of xs (v / 2)))
+    → node_time fetch (v / 2) ≡ gives (time_above xs v)
 above_at xs fetch v h r = elim (dec_lt v 2) [
   | yes l ↦ let e : v / 2 ≡ 0 = omega arith in rw (e, above_root xs v l) (time-above fetch)
   | no l ↦ rw (above-child xs v (omega arith)) (r (omega arith))

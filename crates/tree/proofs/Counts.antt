@@ -1,16 +1,8 @@
 -- How often a number stands in a list, and sums over the numbers 1 to n. A sum over a list of such numbers counts each as often as it stands
 -- there.
-use mathlib.Core.Path.{◌≡◌, refl, ap, ap₂, ◌∙◌}
-use mathlib.Core.Bool.{Bool, true, false, cond, ◌||◌}
-use mathlib.Core.List.{List, [], ◌∷◌, ◌++◌, map}
-use mathlib.Core.Logic.{◌⊎◌, inl, inr, ◌≢◌}
-use Prim.Native.Nat.{ℕ, zero, suc, ◌+◌, ◌*◌, ◌≤◌, ◌<◌, min, max}
-use native.Mathlib.Nat.{le_refl}
+use Rattle.std.proofs.Common.{◌≡◌, refl, ap, ap₂, ◌∙◌, Bool, true, false, cond, ◌||◌, List, [], ◌∷◌, ◌++◌, map, ◌⊎◌, inl, inr, ◌≢◌, ℕ, zero, suc, ◌+◌, ◌*◌}
+use Rattle.std.proofs.Common.{◌≤◌, ◌<◌, min, max, le_refl, arith, eqb, ltb, length, lt-ltb, eq-eqb, ne_eqb}
 use native.Mathlib.Decide.{ℕ_discrete}
-use native.Mathlib.Omega.{arith}
-use lib.Dec.{eqb, ltb}
-use lib.ListN.{length}
-use borrow.Author.Tests.{lt-ltb, eq-eqb, ne_eqb}
 use Rattle.codes.specs.Bits.{sum}
 use Rattle.tree.specs.Sweeps.{occurrences, sum_to}
 use Rattle.tree.specs.Walks.{Among}
@@ -95,7 +87,9 @@ sum-occurrences n f (u ∷ us) a =
     sym-one u h l = omega (arith, sum_one n u f h l)
 
     sums : (g h : ℕ → ℕ) → sum_to n (λ v. g v * f v) + sum_to n (λ v. h v * f v) ≡ sum_to n (λ v. (g v + h v) * f v)
-    sums g h = omega (arith, sum-add n (λ v. g v * f v) (λ v. h v * f v), sum_same n {f = λ v. (g v + h v) * f v} {g = λ v. g v * f v + h v * f v} (λ v. omega arith))
+    sums g h =
+        let apart = sum_same n {f = λ v. (g v + h v) * f v} {g = λ v. g v * f v + h v * f v} (λ v. omega arith) in
+        omega (arith, sum-add n (λ v. g v * f v) (λ v. h v * f v), apart)
 
 -- a list is as long as the numbers stand in it
 pub length-occurrences : (n : ℕ) (vs : List ℕ) → Among n vs → length vs ≡ sum_to n (λ v. occurrences v vs)

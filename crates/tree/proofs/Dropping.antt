@@ -1,14 +1,13 @@
 -- What a target drops of the remembered nodes, where it goes on, and what a sweep answers by it.
-use mathlib.Core.Path.{◌≡◌, refl, sym, ap, subst, ◌∙◌}
+use mathlib.Core.Path.{◌≡◌, refl, sym, ap, ◌∙◌}
 use mathlib.Core.Bool.{Bool, true, false, cond}
 use mathlib.Core.List.{List, [], ◌∷◌, ◌++◌}
-use Prim.Native.Nat.{ℕ, zero, suc, ◌+◌, ◌-◌, ◌≤◌, ◌<◌}
+use Prim.Native.Nat.{ℕ, suc, ◌+◌, ◌≤◌, ◌<◌}
 use native.Mathlib.Nat.{le_refl}
-use native.Mathlib.Decide.{ℕ_discrete}
 use native.Mathlib.Omega.{arith}
 use lib.Dec.{ltb}
 use lib.ListN.{length, get_or, length-append}
-use borrow.Author.Tests.{eq-eqb, ne_eqb}
+use borrow.Author.Tests.{lt-ltb, le-ltb}
 use Rattle.tree.specs.declared.nodes.Levels.{Levels}
 use Rattle.tree.specs.declared.targets.Progress.{Progress}
 use Rattle.tree.specs.Shape.{child_of, stretch}
@@ -17,86 +16,97 @@ use Rattle.tree.specs.Outcomes.{Outcome, refuses, known}
 use Rattle.tree.specs.Times.{times_in}
 use Rattle.tree.specs.Walks.{met, found, never, is_below, position, target_from}
 use Rattle.tree.specs.Sweeps.{dropped, Leg, leg, legs_from, opened, positions}
-use Rattle.tree.specs.Remembering.{entries, left_by, GoesOn, resumed_at, answer_on, Comes}
+use Rattle.tree.specs.declared.targets.Remembered.{Remembered}
+use Rattle.tree.specs.Remembering.{empty, entries, Entry, GoesOn, ResumesIn, answer_on, Comes}
 use Rattle.tree.proofs.Stretches.{stretch-child}
 use Rattle.tree.proofs.Steps.{stands-place, stands-rank, stands-end, kept-end, target-end}
 use Rattle.tree.proofs.Walks.{walk-out, met-append, met-other, met-gives}
 use Rattle.tree.proofs.Remembering.{place-side}
 
--- ---- how many are left
-
-pub left_step : (times : List ℕ) (t c : ℕ) → 1 ≤ c → left_by times t c ≡ cond (ltb (get_or times (c - 1) 0) t) (left_by times t (c - 1)) c
-unfolding left_by
-left_step times t zero h = absurd (omega arith)
-left_step times t (suc c) h = let e : suc c - 1 ≡ c = omega arith in rw e
-
-pub left_le : (times : List ℕ) (t c : ℕ) → left_by times t c ≤ c
-unfolding left_by
-left_le times t zero = le_refl 0
-left_le times t (suc c) = go (ltb (get_or times c 0) t) (left_le times t c)
-  where
-    go : (b : Bool) → left_by times t c ≤ c → cond b (left_by times t c) (suc c) ≤ suc c
-    go true h = omega arith
-    go false h = le_refl (suc c)
-
 -- ---- nodes dropped
 
--- how far a sweep has come that drops the last of c + 1 nodes
-abbrev one_less : List ℕ → List ℕ → ℕ → ℕ → Progress
-one_less nodes times c k = record { count = c; v = child_of true (get_or nodes c 0); above = get_or times c 0; opened = k }
+-- the last of the remembered nodes is dropped
+abbrev pub one_less : Progress → ℕ → Remembered → Progress
+one_less p c last = record { kept = p.kept; count = c; v = child_of true last.v; above = last.time; opened = p.opened }
 
-goes-less : {levels : Levels} {s nodes times : List ℕ} {c v above k : ℕ} → GoesOn levels s nodes times (record { count = suc c; v = v; above = above; opened = k })
-    → GoesOn levels s nodes times (one_less nodes times c k)
-unfolding entries
-goes-less {levels} {s} {nodes} {times} {c} g =
-    let e = g.entry c (le_refl (suc c)) in
-    let w = e.place.stands in
-    record {
-      nodes_size = g.nodes_size;
-      times_size = g.times_size;
-      entry = λ i h. g.entry i (omega arith);
-      place = place-side e.place e.among e.time true c (omega arith);
-      few = rw (stretch-child levels.pins true (get_or nodes c 0) w.one) (omega (arith, g.few, g.place.ends, stands-rank w, stands-place w e.among));
-    }
+-- with no more than c of them left it goes on from the right child of the last that is dropped, or where it is
+abbrev pub left : Progress → ℕ → Progress
+left p c = cond (ltb c p.count) (one_less p c (get_or p.kept c empty)) p
 
--- what target t drops, and where it goes on
-pub record Resumes (levels : Levels) (s nodes times : List ℕ) (t : ℕ) (p q : Progress) : Type 0 where
-  pub goes : GoesOn levels s nodes times q
-  pub drops : dropped (is_below (times_in levels s) t) p.v (entries nodes p.count) ≡ record { from = q.v; kept = entries nodes q.count }
+-- how target t goes on from p is how it goes on from q, which drops some
+pub record DropsTo (levels : Levels) (s : List ℕ) (t : ℕ) (p q : Progress) : Type 0 where
+  pub goes : GoesOn levels s q
+  pub on : dropped (is_below (times_in levels s) t) p.v (entries p.kept p.count) ≡ dropped (is_below (times_in levels s) t) q.v (entries q.kept q.count)
   pub same : q.opened ≡ p.opened
 
-module _ (levels : Levels) (s nodes times : List ℕ) (t : ℕ) where
-  -- it goes on as after the first drop
-  resumed-less : (c v above k : ℕ) → ltb (get_or times c 0) t ≡ true
-      → resumed_at nodes times (record { count = suc c; v = v; above = above; opened = k }) t ≡ resumed_at nodes times (one_less nodes times c k) t
-  unfolding left_by
-  resumed-less c v above k b =
-      let m = left_by times t c in
-      rw (b, ne_eqb m (suc c) (λ e. omega (arith, left_le times t c)))
-      (elim (ℕ_discrete m c) [
-        | yes e ↦ rw (eq-eqb m c e, e)
-        | no d ↦ rw (ne_eqb m c d)
-      ])
+module _ {levels : Levels} {s : List ℕ} {t : ℕ} {p q : Progress} (d : DropsTo levels s t p q) where
+  -- no more is dropped where nothing is left
+  pub drops-all : q.count ≡ 0 → ResumesIn levels s t p q
+  unfolding entries dropped
+  drops-all z = record { goes = d.goes; drops = rw z (rw z at d.on); same = d.same }
 
-  resumes-from : (c v above k : ℕ) → let p : Progress = record { count = c; v = v; above = above; opened = k } in
-      GoesOn levels s nodes times p → Resumes levels s nodes times t p (resumed_at nodes times p t)
-  unfolding left_by entries dropped
-  resumes-from zero v above k g = record { goes = g; drops = refl; same = refl }
-  resumes-from (suc c) v above k g = go (ltb (get_or times c 0) t) refl (resumes-from c _ _ k (goes-less g))
-    where
-      p : Progress
-      p = record { count = suc c; v = v; above = above; opened = k }
+  module _ (c : ℕ) (last : Remembered) (n : q.count ≡ suc c) (is : get_or q.kept c empty ≡ last) where
+    entry-last : Entry levels s (entries q.kept c) c last
+    entry-last = rw is at (d.goes.entry c (omega arith))
 
-      below : is_below (times_in levels s) t (get_or nodes c 0) ≡ ltb (get_or times c 0) t
-      below = ap (λ (z : Outcome ℕ). ltb (known z) t) (g.entry c (le_refl (suc c))).time
+    past-last : is_below (times_in levels s) t last.v ≡ ltb last.time t
+    past-last = ap (λ (z : Outcome ℕ). ltb (known z) t) entry-last.time
 
-      go : (b : Bool) → ltb (get_or times c 0) t ≡ b → Resumes levels s nodes times t (one_less nodes times c k) (resumed_at nodes times (one_less nodes times c k) t)
-          → Resumes levels s nodes times t p (resumed_at nodes times p t)
-      go true e r = subst (Resumes levels s nodes times t p) (sym (resumed-less c v above k e)) (record { goes = r.goes; drops = rw (below, e) r.drops; same = r.same })
-      go false e r = rw (e, eq-eqb (suc c) (suc c) refl) (record { goes = g; drops = rw (below, e); same = refl })
+    entries-last : entries q.kept q.count ≡ last.v ∷ entries q.kept c
+    unfolding entries
+    entries-last = rw (n, is)
 
-  pub resumes : {p q : Progress} → GoesOn levels s nodes times p → q ≡ resumed_at nodes times p t → Resumes levels s nodes times t p q
-  resumes {p} g e = subst (Resumes levels s nodes times t p) (sym e) (resumes-from p.count p.v p.above p.opened g)
+    -- nor where the last one stays
+    pub drops-no-more : t ≤ last.time → ResumesIn levels s t p q
+    unfolding dropped
+    drops-no-more h = record { goes = d.goes; drops = rw entries-last (rw (entries-last, past-last, le-ltb last.time t h) at d.on); same = d.same }
+
+    -- and else that one
+    pub drops-last : last.time < t → DropsTo levels s t p (one_less q c last)
+    unfolding dropped
+    drops-last h =
+        let e = entry-last in
+        let w = e.place.stands in
+        let g = d.goes in
+        record {
+          goes = record {
+            size = g.size;
+            entry = λ i k. g.entry i (omega arith);
+            place = place-side e.place e.among e.time true c (omega arith);
+            few = rw (stretch-child levels.pins true last.v w.one)
+                (omega (arith, g.few, rw entries-last at g.place.ends, stands-rank w, stands-place w e.among));
+          };
+          on = rw (entries-last, past-last, lt-ltb last.time t h) at d.on;
+          same = d.same;
+        }
+
+-- ---- what is left of them
+
+module _ (p : Progress) (c : ℕ) (last : Remembered) where
+  left-kept : (b : Bool) → (cond b (one_less p c last) p).kept ≡ p.kept
+  left-kept true = refl
+  left-kept false = refl
+
+  left-opened : (b : Bool) → (cond b (one_less p c last) p).opened ≡ p.opened
+  left-opened true = refl
+  left-opened false = refl
+
+left-count : (p : Progress) (c : ℕ) → c ≤ p.count → (left p c).count ≡ c
+left-count p c h = grind (arith, h)
+
+module _ {levels : Levels} {s : List ℕ} {t : ℕ} {p : Progress} (c : ℕ) (h : c ≤ p.count) (d : DropsTo levels s t p (left p c)) where
+  pub left-none : c ≡ 0 → ResumesIn levels s t p (left p c)
+  left-none z = drops-all d (left-count p c h ∙ z)
+
+  module _ (k : ℕ) (e : c ≡ suc k) where
+    pub left-stays : t ≤ (get_or p.kept k empty).time → ResumesIn levels s t p (left p c)
+    left-stays = drops-no-more d k (get_or p.kept k empty) (left-count p c h ∙ e) (rw (left-kept p c (get_or p.kept c empty) (ltb c p.count)))
+
+    pub left-less : (get_or p.kept k empty).time < t → DropsTo levels s t p (left p k)
+    left-less less =
+        let q = drops-last d k (get_or p.kept k empty) (left-count p c h ∙ e) (rw (left-kept p c (get_or p.kept c empty) (ltb c p.count))) less in
+        let few : k < p.count = omega (arith, h, e) in
+        rw (lt-ltb k p.count few) (rw (left-kept p c (get_or p.kept c empty) (ltb c p.count), left-opened p c (get_or p.kept c empty) (ltb c p.count)) at q)
 
 -- ---- a target of a sweep
 
@@ -118,10 +128,10 @@ legs-missing n time u v h i kept (t ∷ ts) = ap (λ (l : Leg). l ∷ legs_from 
         some true = refl
         some false = none (w ∷ ws)
 
-module _ (levels : Levels) (s nodes : List ℕ) (p : Progress) (ts : List ℕ) where
+module _ (levels : Levels) (s : List ℕ) (p : Progress) (ts : List ℕ) where
   -- the targets that are left of a sweep that has come so far
   abbrev pub legs_on : List Leg
-  legs_on = legs_from levels.pins (times_in levels s) p.v (entries nodes p.count) ts
+  legs_on = legs_from levels.pins (times_in levels s) p.v (entries p.kept p.count) ts
 
   -- what it answers, and their positions
   abbrev pub sweep_on : Outcome ℕ
@@ -130,7 +140,7 @@ module _ (levels : Levels) (s nodes : List ℕ) (p : Progress) (ts : List ℕ) w
   abbrev pub positions_on : List ℕ
   positions_on = positions levels.pins (times_in levels s) legs_on
 
-module _ {levels : Levels} {s nodes times : List ℕ} {t : ℕ} {p q : Progress} (r : Resumes levels s nodes times t p q) (ts : List ℕ) where
+module _ {levels : Levels} {s : List ℕ} {t : ℕ} {p q : Progress} (r : ResumesIn levels s t p q) (ts : List ℕ) where
   abbrev n : ℕ
   n = levels.pins
 
@@ -138,17 +148,17 @@ module _ {levels : Levels} {s nodes times : List ℕ} {t : ℕ} {p q : Progress}
   read = times_in levels s
 
   abbrev here : Leg
-  here = leg n read t (record { from = q.v; kept = entries nodes q.count })
+  here = leg n read t (record { from = q.v; kept = entries q.kept q.count })
 
   abbrev later : List Leg
   later = legs_from n read (suc n) here.kept ts
 
-  first-leg : legs_on levels s nodes p (t ∷ ts) ≡ here ∷ later
+  first-leg : legs_on levels s p (t ∷ ts) ≡ here ∷ later
   unfolding legs_from
   first-leg = rw r.drops
 
-  pub sweep-stopped : {k c : ℕ} → answer_on levels s t nodes q ≡ refuses k c
-      → (sweep_on levels s nodes p (t ∷ ts) ≡ refuses k c) × (positions_on levels s nodes p (t ∷ ts) ≡ [])
+  pub sweep-stopped : {k c : ℕ} → answer_on levels s t q ≡ refuses k c
+      → (sweep_on levels s p (t ∷ ts) ≡ refuses k c) × (positions_on levels s p (t ∷ ts) ≡ [])
   unfolding opened positions target_from
   sweep-stopped e =
       let all = opened (here ∷ later) in
@@ -159,21 +169,21 @@ module _ {levels : Levels} {s nodes times : List ℕ} {t : ℕ} {p q : Progress}
       )
 
   -- it comes to a missing child, whose place is its position
-  pub sweep-next : {nodes' times' : List ℕ} {u : Progress} → Comes levels s t nodes q nodes' times' u → n < u.v
-      → (sweep_on levels s nodes p (t ∷ ts) ≡ sweep_on levels s nodes' u ts)
-      × (positions_on levels s nodes p (t ∷ ts) ≡ (stretch n u.v).start ∷ positions_on levels s nodes' u ts)
+  pub sweep-next : {u : Progress} → Comes levels s t q u → n < u.v
+      → (sweep_on levels s p (t ∷ ts) ≡ sweep_on levels s u ts)
+      × (positions_on levels s p (t ∷ ts) ≡ (stretch n u.v).start ∷ positions_on levels s u ts)
   unfolding opened positions target_from
-  sweep-next {nodes'} {times'} {u} m h =
-      let kept = entries nodes' u.count in
+  sweep-next {u} m h =
+      let kept = entries u.kept u.count in
       let place = m.goes.place in
       let answer = found (position n here.kept) (q.opened + length here.nodes) in
       let e = sym m.answer ∙ target-end n read t kept u.opened u.v h in
       let count : q.opened + length here.nodes ≡ u.opened = ap (λ (f : Found). f.nodes) (met-gives read here.nodes answer _ e) in
       let same : here.kept ≡ kept = sym m.kept ∙ kept-end n read t kept u.v h in
-      let rest : later ≡ legs_on levels s nodes' u ts = rw same (legs-missing n read (suc n) u.v (le_refl (suc n)) h kept ts) in
+      let rest : later ≡ legs_on levels s u ts = rw same (legs-missing n read (suc n) u.v (le_refl (suc n)) h kept ts) in
       let all : p.opened + length (here.nodes ++ opened later) ≡ u.opened + length (opened later) = omega (arith, length-append here.nodes (opened later), r.same) in
       rw first-leg (
         met-append read here.nodes (opened later) _ answer ∙ rw (e, all, rest),
         rw (met-other read here.nodes (position n here.kept) answer, e, rest)
-            (ap (λ (i : ℕ). i ∷ positions_on levels s nodes' u ts) (ap (position n) same ∙ sym place.ends ∙ stands-end place.stands h)),
+            (ap (λ (i : ℕ). i ∷ positions_on levels s u ts) (ap (position n) same ∙ sym place.ends ∙ stands-end place.stands h)),
       )

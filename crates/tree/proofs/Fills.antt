@@ -1,16 +1,12 @@
 -- What filling the buffer node by node leaves in it.
-use mathlib.Core.Path.{◌≡◌, refl, sym, ap, ◌∙◌}
-use mathlib.Core.Logic.{inl, inr}
-use mathlib.Core.Bool.{Bool, true, false}
-use mathlib.Core.List.{List, ◌++◌}
-use Prim.Native.Nat.{ℕ, suc, ◌+◌, ◌-◌, ◌*◌, ◌≤◌, ◌<◌}
+use Rattle.std.proofs.Common.{◌≡◌, refl, sym, ap, ◌∙◌, inl, inr, Bool, true, false, List, ◌++◌, ℕ, suc, ◌+◌, ◌-◌, ◌*◌, ◌≤◌, ◌<◌, arith, length, get_or}
+use Rattle.std.proofs.Common.{drop, set, length-set, length-append, length-drop, ext_get_or, get_or-append-add, get_or-drop, get_or-set_same}
+use Rattle.std.proofs.Common.{get_or-set_other}
 use native.Mathlib.Decide.{dec_lt, ℕ_discrete}
-use native.Mathlib.Omega.{arith}
-use lib.ListN.{length, get_or, drop, set, length-set, length-append, length-drop, get_or-append}
-use lib.Seq.{ext_get_or, get_or-append-add, get_or-drop, get_or-set_same, get_or-set_other}
-use Rattle.tree.specs.Shape.{root_place, child_of}
+use lib.ListN.{get_or-append}
+use Rattle.tree.specs.declared.shape.Stretch.{Stretch}
+use Rattle.tree.specs.Shape.{root_place, child_of, side_of, stretch}
 use Rattle.tree.specs.Stored.{time_of, time_above, stored, stored_values}
-use Rattle.tree.specs.Standing.{StretchIs}
 use Rattle.tree.specs.Filled.{Under, here, below, Correct, Filled}
 use Rattle.tree.proofs.Heights.{place-small}
 use Rattle.tree.proofs.Stretches.{node-of-pins, past-nodes, is-child, few-place, rank_is}
@@ -92,19 +88,22 @@ module _ (xs : List ℕ) where
 
 -- ---- one node
 
-module _ (xs : List ℕ) {v start pins : ℕ} (one : 1 ≤ v) (e : StretchIs (length xs) v start pins) where
-  pub filled-past : pins ≡ 0 → (before : List ℕ) → Filled xs v before before
+module _ (xs : List ℕ) {v : ℕ} {s : Stretch} (one : 1 ≤ v) (e : stretch (length xs) v ≡ s) where
+  pub filled-past : s.pins ≡ 0 → (before : List ℕ) → Filled xs v before before
   filled-past z before = filled_none xs v before (past-nodes (length xs) v one (rw e z))
 
-  pub fill-node : 1 ≤ pins → v ≤ length xs
+  pub fill-node : 1 ≤ s.pins → v ≤ length xs
   fill-node h = node-of-pins (length xs) v (rw e h)
 
-  pub fill-time : get_or xs (start + root_place pins - 1) 0 ≡ time_of xs v
+  above-side : (right : Bool) → time_above xs (child_of right v) ≡ time_of xs v
+  above-side right = above-child xs (child_of right v) (omega (arith, child-bounds right v)) ∙ rw (parent_of right v)
+
+  pub fill-time : get_or xs (s.start + root_place s.pins - 1) 0 ≡ time_of xs v
   unfolding time_of
   fill-time = rw (rank_is (length xs) v e)
 
   -- a node with one pin has no children
-  pub filled-leaf : pins ≡ 1 → {before now : List ℕ} → length xs ≤ length before → now ≡ set before (v - 1) (stored xs v) → Filled xs v before now
+  pub filled-leaf : s.pins ≡ 1 → {before now : List ℕ} → length xs ≤ length before → now ≡ set before (v - 1) (stored xs v) → Filled xs v before now
   unfolding child_of
   filled-leaf p {before} {now} room w =
       let k = fill-node (omega arith) in
@@ -112,17 +111,40 @@ module _ (xs : List ℕ) {v start pins : ℕ} (one : 1 ≤ v) (e : StretchIs (le
       filled-node xs v before now now now one k (omega arith) w (filled_none xs (2 * v) now last) (filled_none xs (2 * v + 1) now (omega arith))
 
   -- where the time stands of a node with one pin, and of one with two or three
-  pub one_time : pins ≡ 1 → get_or xs start 0 ≡ time_of xs v
+  pub one_time : s.pins ≡ 1 → get_or xs s.start 0 ≡ time_of xs v
   one_time p =
       let place = place-small 1 (omega arith) in
-      let k : start + root_place pins - 1 ≡ start = rw p (omega arith) in
+      let k : s.start + root_place s.pins - 1 ≡ s.start = rw p (omega arith) in
       rw k at fill-time
 
-  pub few-time : 2 ≤ pins → pins ≤ 3 → get_or xs (start + 1) 0 ≡ time_of xs v
+  pub few-time : 2 ≤ s.pins → s.pins ≤ 3 → get_or xs (s.start + 1) 0 ≡ time_of xs v
   few-time two three =
-      let place = few-place pins two three in
-      let k : start + root_place pins - 1 ≡ start + 1 = omega arith in
+      let place = few-place s.pins two three in
+      let k : s.start + root_place s.pins - 1 ≡ s.start + 1 = omega arith in
       rw k at fill-time
 
-pub above-side : (right : Bool) (xs : List ℕ) (v : ℕ) → 1 ≤ v → time_above xs (child_of right v) ≡ time_of xs v
-above-side right xs v h = above-child xs (child_of right v) (omega (arith, child-bounds right v)) ∙ rw (parent_of right v)
+  -- its children, with their times above
+  module _ {time : ℕ} (own : time ≡ time_of xs v) where
+    pub above-left : time_above xs (2 * v) ≡ time
+    unfolding child_of
+    above-left = above-side false ∙ sym own
+
+    pub above-right : time_above xs (2 * v + 1) ≡ time
+    unfolding child_of
+    above-right = above-side true ∙ sym own
+
+  pub left-is : stretch (length xs) (2 * v) ≡ side_of false s
+  unfolding child_of
+  left-is = is-child false (length xs) one e
+
+  pub right-is : stretch (length xs) (2 * v + 1) ≡ side_of true s
+  unfolding child_of
+  right-is = is-child true (length xs) one e
+
+  -- with two or three pins
+  module _ (two : 2 ≤ s.pins) (three : s.pins ≤ 3) where
+    pub few-left : stretch (length xs) (2 * v) ≡ record { start = s.start; pins = 1 }
+    few-left = left-is ∙ rw (few-place s.pins two three)
+
+    pub few-right : stretch (length xs) (2 * v + 1) ≡ record { start = s.start + 2; pins = s.pins - 2 }
+    few-right = right-is ∙ rw (few-place s.pins two three)

@@ -1,13 +1,9 @@
 -- The height of a tree, and the root's place by the pins of its last level.
-use mathlib.Core.Path.{◌≡◌, ◌∙◌}
-use mathlib.Core.Bool.{cond}
-use Prim.Native.Nat.{ℕ, zero, suc, ◌+◌, ◌-◌, ◌*◌, ◌/◌, ◌^◌, ◌≤◌, ◌<◌, min}
-use native.Mathlib.Nat.{lt_of_not-le, pow-succ'}
+use Rattle.std.proofs.Common.{◌≡◌, ◌∙◌, cond, ℕ, zero, suc, ◌+◌, ◌-◌, ◌*◌, ◌/◌, ◌^◌, ◌≤◌, ◌<◌, min, lt_of_not-le, arith, ltb, pow_pos, pow_mono, shr_lt}
+use Rattle.std.proofs.Common.{pow-add, lt-ltb, le-ltb}
+use native.Mathlib.Nat.{pow-succ'}
 use native.Mathlib.Decide.{dec_lt}
-use native.Mathlib.Omega.{arith}
-use lib.Dec.{ltb}
-use lib.Pow.{pow_pos, pow_mono, shl-shr, shr_mono, shr_lt, pow-add}
-use borrow.Author.Tests.{lt-ltb, le-ltb}
+use lib.Pow.{shl-shr, shr_mono}
 use Rattle.codes.proofs.Promises.{least-width}
 use Rattle.tree.specs.Shape.{height, root_place}
 

@@ -1,10 +1,7 @@
 -- The tree in the order of its ranks: under node v stand the ranks from a to b - 1, the node's own between those of its left and
 -- its right subtree. What follows about ranks and walks goes by this tree alone.
-use mathlib.Core.Path.{◌≡◌}
-use Prim.Native.Nat.{ℕ, zero, suc, ◌+◌, ◌-◌, ◌*◌, ◌≤◌, ◌<◌}
-use native.Mathlib.Nat.{zero-add}
+use Rattle.std.proofs.Common.{◌≡◌, ℕ, zero, suc, ◌+◌, ◌-◌, ◌*◌, ◌≤◌, ◌<◌, zero-add, arith}
 use native.Mathlib.Decide.{dec_lt}
-use native.Mathlib.Omega.{arith}
 use Rattle.tree.specs.Shape.{root_place, stretch, rank}
 use Rattle.tree.proofs.Stretches.{stretch-root, stretch-left, stretch-right, no_pins, rank-in}
 

@@ -1,4 +1,4 @@
--- The marks of all levels: those of one level are renewed, and zeros are marks of any levels.
+-- The marks of all levels: those of one level are renewed, and those of no bits are marks of any levels.
 use mathlib.Core.Path.{◌≡◌, sym, ap, ◌∙◌}
 use mathlib.Core.List.{List, ◌++◌}
 use Prim.Native.Nat.{ℕ, ◌+◌, ◌-◌, ◌*◌, ◌/◌, ◌≤◌, ◌<◌}
@@ -8,21 +8,22 @@ use native.Mathlib.Omega.{arith}
 use lib.ListN.{length, take, drop, get_or, replicate, length-take, length-drop, take-append-drop, get_or-eq_default, get_or-replicate, length-replicate}
 use lib.Seq.{length-take-le, take_at, drop_at, drop-drop, take-append-le, drop-append-le, get_or-take, get_or-drop}
 use borrow.Rule.Slice.PartMut.{mid_of, put_mid, post_of, same_len_mid, mid_len, drop_put}
-use Rattle.codes.specs.Marks.{Marks}
+use Rattle.codes.specs.declared.marking.Mark.{Mark}
+use Rattle.codes.specs.Marks.{none, Marks}
 use Rattle.codes.proofs.Promises.{zero-marks}
 use Rattle.tree.specs.Levels.{part_of}
 use Rattle.tree.specs.LevelMarks.{marks_of, LevelMarks}
 
 -- ---- entries in the place of the k from a on
 
-module _ (a k : ℕ) (xs ys : List ℕ) (l : a + k ≤ length xs) (e : length ys ≡ k) where
+module _ {A : Type 0} (a k : ℕ) (xs ys : List A) (l : a + k ≤ length xs) (e : length ys ≡ k) where
   put-there : take k (drop a (put_mid a k xs ys)) ≡ ys
   put-there = rw (drop_at (take a xs) (ys ++ post_of a k xs) a (length-take-le a xs (omega arith)), take_at ys (post_of a k xs) k e)
 
   kept-before : (b : ℕ) → b + k ≤ a → take k (drop b (put_mid a k xs ys)) ≡ take k (drop b xs)
-  kept-before b h = front (ys ++ post_of a k xs) ∙ sym (front (drop a xs)) ∙ ap (λ (zs : List ℕ). take k (drop b zs)) (take-append-drop a xs)
+  kept-before b h = front (ys ++ post_of a k xs) ∙ sym (front (drop a xs)) ∙ ap (λ (zs : List A). take k (drop b zs)) (take-append-drop a xs)
     where
-      front : (zs : List ℕ) → take k (drop b (take a xs ++ zs)) ≡ take k (drop b (take a xs))
+      front : (zs : List A) → take k (drop b (take a xs ++ zs)) ≡ take k (drop b (take a xs))
       front zs =
           let n = length-take-le a xs (omega arith) in
           rw (drop-append-le b (take a xs) zs (omega arith), take-append-le k (drop b (take a xs)) zs (simp length-drop (omega arith)))
@@ -44,7 +45,7 @@ marks-room d n h = omega (arith, mul-le-mul_right (n / 16) h)
 size : (d k : ℕ) → d * k + k - d * k ≡ k
 size d k = omega arith
 
-module _ {ends s ms : List ℕ} (old : LevelMarks ends s ms) (d : ℕ) (h : d < 16) where
+module _ {ends s : List ℕ} {ms : List Mark} (old : LevelMarks ends s ms) (d : ℕ) (h : d < 16) where
   abbrev k : ℕ
   k = length ms / 16
 
@@ -52,7 +53,7 @@ module _ {ends s ms : List ℕ} (old : LevelMarks ends s ms) (d : ℕ) (h : d < 
   marks-lent = rw (size d k) (old.marks d h)
 
   -- back and still true, with the others as they were
-  pub marks-back : (ys : List ℕ) → length ys ≡ length (mid_of (d * k) (d * k + k - d * k) ms) → Marks (part_of ends s d) ys
+  pub marks-back : (ys : List Mark) → length ys ≡ length (mid_of (d * k) (d * k + k - d * k) ms) → Marks (part_of ends s d) ys
       → LevelMarks ends s (put_mid (d * k) (d * k + k - d * k) ms ys)
   marks-back ys l new = rw (size d k) (record { marks = λ e b. rw whole (go e b) })
     where
@@ -74,23 +75,26 @@ module _ {ends s ms : List ℕ} (old : LevelMarks ends s ms) (d : ℕ) (h : d < 
         ]
       ]
 
--- ---- zeros
+-- ---- marks of no bits
 
--- any number of them are marks
-pub marks-zero : (ends s : List ℕ) (n : ℕ) → LevelMarks ends s (replicate n 0)
-marks-zero ends s n = record { marks = λ d h. zero-marks (part_of ends s d) (marks_of (replicate n 0) d) (zero d) }
+-- any number of them
+pub marks-none : (ends s : List ℕ) (n : ℕ) → LevelMarks ends s (replicate n none)
+marks-none ends s n = record { marks = λ d h. zero-marks (part_of ends s d) (marks_of (replicate n none) d) (lent d) }
   where
-    zeros : (j : ℕ) → get_or (replicate {A = ℕ} n 0) j 0 ≡ 0
-    zeros j = elim (dec_lt j n) [
-      | yes y ↦ get_or-replicate n j 0 0 y
-      | no m ↦ get_or-eq_default (replicate {A = ℕ} n 0) 0 (simp length-replicate (omega arith))
+    all : List Mark
+    all = replicate n none
+
+    nones : (j : ℕ) → get_or all j none ≡ none
+    nones j = elim (dec_lt j n) [
+      | yes y ↦ get_or-replicate n j none none y
+      | no m ↦ get_or-eq_default all none (simp length-replicate (omega arith))
     ]
 
-    zero : (d j : ℕ) → get_or (marks_of (replicate n 0) d) j 0 ≡ 0
-    zero d j =
-        let k = length (replicate {A = ℕ} n 0) / 16 in
-        let rest = drop (d * k) (replicate {A = ℕ} n 0) in
+    lent : (d j : ℕ) → get_or (marks_of all d) j none ≡ none
+    lent d j =
+        let k = length all / 16 in
+        let rest = drop (d * k) all in
         elim (dec_lt j k) [
-          | yes y ↦ get_or-take k rest j 0 y ∙ get_or-drop (d * k) (replicate {A = ℕ} n 0) j 0 ∙ zeros (d * k + j)
-          | no m ↦ get_or-eq_default (take k rest) 0 (rw length-take (omega arith))
+          | yes y ↦ get_or-take k rest j none y ∙ get_or-drop (d * k) all j none ∙ nones (d * k + j)
+          | no m ↦ get_or-eq_default (take k rest) none (rw length-take (omega arith))
         ]

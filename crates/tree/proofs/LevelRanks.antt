@@ -1,11 +1,8 @@
 -- The ranks of nodes in closed form, and what the last level does to the ranks of the nodes above it: the list of the nodes above, with the
 -- level's nodes put between its entries, is the list of all.
-use mathlib.Core.Path.{◌≡◌, ap}
-use Prim.Native.Nat.{ℕ, zero, suc, ◌+◌, ◌-◌, ◌*◌, ◌/◌, ◌^◌, ◌≤◌, ◌<◌, min}
-use native.Mathlib.Nat.{pow-succ', mul-le-mul_right}
+use Rattle.std.proofs.Common.{◌≡◌, ap, ℕ, zero, suc, ◌+◌, ◌-◌, ◌*◌, ◌/◌, ◌^◌, ◌≤◌, ◌<◌, min, mul-le-mul_right, arith, pow_pos, pow-add, pow_mono}
+use native.Mathlib.Nat.{pow-succ'}
 use native.Mathlib.Decide.{dec_lt}
-use native.Mathlib.Omega.{arith}
-use lib.Pow.{pow_pos, pow-add, pow_mono}
 use Rattle.tree.specs.Shape.{stretch, rank}
 use Rattle.tree.proofs.Heights.{digits, place-small}
 use Rattle.tree.proofs.Stretches.{Child, left, right, child, stretch-root, stretch-left, stretch-right, pins-at, place_at, rank-in}

@@ -1,15 +1,9 @@
 -- The values that nodes store: how many, how large, how many on a level; and that a fetch from their levels gives them back.
-use mathlib.Core.Path.{◌≡◌, refl, sym, ap, ◌∙◌}
-use mathlib.Core.Bool.{Bool, true, false, cond}
-use mathlib.Core.List.{List}
-use Prim.Native.Nat.{ℕ, zero, suc, ◌+◌, ◌-◌, ◌*◌, ◌/◌, ◌%◌, ◌^◌, ◌≤◌, ◌<◌, min}
+use Rattle.std.proofs.Common.{◌≡◌, refl, sym, ap, ◌∙◌, Bool, true, false, cond, List, ℕ, zero, suc, ◌+◌, ◌-◌, ◌*◌, ◌/◌, ◌%◌, ◌^◌, ◌≤◌, ◌<◌, min, arith}
+use Rattle.std.proofs.Common.{length, drop, get_or, length-take, length-drop, eqb, ltb, get_or-take, get_or-drop, pow_pos, pow_mono}
 use native.Mathlib.Nat.{pow-succ'}
 use native.Mathlib.Decide.{dec_lt}
-use native.Mathlib.Omega.{arith}
-use lib.ListN.{length, drop, get_or, length-take, length-drop, get_or-eq_default}
-use lib.Dec.{eqb, ltb}
-use lib.Seq.{get_or-take, get_or-drop}
-use lib.Pow.{pow_pos, pow_mono}
+use lib.ListN.{get_or-eq_default}
 use Rattle.codes.specs.Codes.{Within}
 use Rattle.codes.specs.Fetch.{value}
 use Rattle.codes.specs.Decode.{all, decoded}
@@ -83,7 +77,8 @@ level-half values d = omega (arith, level_count values d, count_is (length value
 
 pub level-above : (values : List ℕ) (d : ℕ) → min (length values) (2 ^ d - 1) + length (level_values values d) ≤ min (length values) (2 ^ suc d - 1)
 level-above values d =
-    go (length values) (2 ^ d) (2 ^ suc d) (length (level_values values d)) (pow_pos d) (pow-succ' 2 d) (omega (arith, level_count values d, count_is (length values) d))
+    go (length values) (2 ^ d) (2 ^ suc d) (length (level_values values d)) (pow_pos d) (pow-succ' 2 d)
+    (omega (arith, level_count values d, count_is (length values) d))
   where
     go : (n p q m : ℕ) → 1 ≤ p → q ≡ 2 * p → m ≤ min (n + 1 - p) p → min n (p - 1) + m ≤ min n (q - 1)
     go n p q m h e l = omega arith

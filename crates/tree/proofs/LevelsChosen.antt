@@ -1,12 +1,7 @@
 -- Levels that are what pack writes, one after the other.
-use mathlib.Core.Path.{◌≡◌, refl, sym, ap, ◌∙◌}
-use mathlib.Core.Bool.{Bool, true, false, ◌&&◌, and-false, and-eq-true_iff, false≢true}
-use mathlib.Core.List.{List}
-use Prim.Native.Nat.{ℕ, zero, suc, ◌+◌, ◌<◌}
-use native.Mathlib.Numerals.{add-one}
+use Rattle.std.proofs.Common.{◌≡◌, refl, sym, ap, ◌∙◌, Bool, true, false, ◌&&◌, List, ℕ, zero, suc, ◌+◌, ◌<◌, add-one, arith, length}
+use mathlib.Core.Bool.{and-false, and-eq-true_iff, false≢true}
 use native.Mathlib.Decide.{ℕ_discrete}
-use native.Mathlib.Omega.{arith}
-use lib.ListN.{length}
 use Rattle.codes.specs.Decode.{Decoded, all, undecoded, is_decoded}
 use Rattle.codes.proofs.Promises.{chosen-parts}
 use Rattle.tree.specs.declared.nodes.Levels.{Levels}
@@ -63,4 +58,5 @@ module _ (levels : Levels) (s : List ℕ) where
 pub codes-chosen : StoredChosen
 codes-chosen levels s xs w codes = chosen-all levels s (height levels.pins) (λ d h.
     let few : d < height (length xs) = rw w.pins_are at h in
-    ap (chosen_by (code_of levels d) (part_of levels.ends s d)) (decoded-back w d few) ∙ rw (w.parts_are d few, codes d few) (chosen-parts.back (level_values (stored_values xs) d)))
+    ap (chosen_by (code_of levels d) (part_of levels.ends s d)) (decoded-back w d few)
+    ∙ rw (w.parts_are d few, codes d few) (chosen-parts.back (level_values (stored_values xs) d)))

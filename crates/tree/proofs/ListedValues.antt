@@ -1,17 +1,9 @@
 -- Where every position has a time, the nodes have the times of that list at their ranks, and what is fetched for them is what the
 -- list's tree stores.
-use mathlib.Core.Path.{◌≡◌, refl, sym, ap, ◌∙◌}
-use mathlib.Core.Bool.{true, cond, false≢true}
-use mathlib.Core.List.{List, [], ◌∷◌}
-use Prim.Native.Nat.{ℕ, zero, suc, ◌+◌, ◌-◌, ◌/◌, ◌%◌, ◌^◌, ◌≤◌, ◌<◌}
-use native.Mathlib.Nat.{zero-add, add-zero, le_refl}
+use Rattle.std.proofs.Common.{◌≡◌, refl, sym, ap, ◌∙◌, true, cond, List, [], ◌∷◌, ℕ, zero, suc, ◌+◌, ◌-◌, ◌/◌, ◌%◌, ◌^◌, ◌≤◌, ◌<◌, zero-add, add-zero}
+use Rattle.std.proofs.Common.{le_refl, arith, ltb, length, get_or, ext_get_or, pow_pos, lt-ltb, le-ltb, eq-eqb, ne_eqb}
+use mathlib.Core.Bool.{false≢true}
 use native.Mathlib.Decide.{dec_lt, ℕ_discrete}
-use native.Mathlib.Omega.{arith}
-use lib.Dec.{ltb}
-use lib.ListN.{length, get_or}
-use lib.Seq.{ext_get_or}
-use lib.Pow.{pow_pos}
-use borrow.Author.Tests.{lt-ltb, le-ltb, eq-eqb, ne_eqb}
 use Rattle.codes.specs.Codes.{part}
 use Rattle.codes.specs.Choice.{chosen}
 use Rattle.codes.specs.Fetch.{Fetched, value, outside}
@@ -50,14 +42,16 @@ found_from answer zero i j e h = absurd (omega arith)
 found_from answer (suc k) i j e h = go (answer i) refl e j h (found_from answer k (suc i))
   where
     go : (x : Outcome Found) → answer i ≡ x → after x (λ f. stop_from answer k (suc i)) ≡ gives tt → (j : ℕ) → j < suc k
-        → ((j : ℕ) → stop_from answer k (suc i) ≡ gives tt → j < k → (f : Found) × (answer (suc i + j) ≡ gives f) × (get_or (times_from answer k (suc i)) j 0 ≡ f.value))
+        → ((j : ℕ) → stop_from answer k (suc i) ≡ gives tt → j < k
+        → (f : Found) × (answer (suc i + j) ≡ gives f) × (get_or (times_from answer k (suc i)) j 0 ≡ f.value))
         → (f : Found) × (answer (i + j) ≡ gives f) × (get_or (follow (λ r c. []) x (λ f. f.value ∷ times_from answer k (suc i))) j 0 ≡ f.value)
     go (gives f) p q zero l r = (f, rw (add-zero i) p, refl)
     go (gives f) p q (suc j) l r = let s : suc i + j ≡ i + suc j = omega arith in rw s at (r j q (omega arith))
     go (refuses x c) p q j l r = absurd (gives-refuses (sym q))
 
 -- the last node of a walk that is not refused has a time
-met-last : {A : Type 0} (time : ℕ → Outcome ℕ) (d : ℕ) (a b : A) (vs : List ℕ) → 1 ≤ length vs → met time vs a ≡ gives b → time (last_of d vs) ≡ gives (known (time (last_of d vs)))
+met-last : {A : Type 0} (time : ℕ → Outcome ℕ) (d : ℕ) (a b : A) (vs : List ℕ) → 1 ≤ length vs → met time vs a ≡ gives b
+    → time (last_of d vs) ≡ gives (known (time (last_of d vs)))
 unfolding met verdict last_of
 met-last time d a b [] h e = absurd (omega arith)
 met-last time d a b (v ∷ []) h e = go (time v) e
@@ -68,7 +62,8 @@ met-last time d a b (v ∷ []) h e = go (time v) e
 met-last time d a b (v ∷ w ∷ vs) h e = go (time v) e (met-last time v a b (w ∷ vs) (omega arith))
   where
     go : (y : Outcome ℕ) → after y (λ _. met time (w ∷ vs) a) ≡ gives b
-        → (met time (w ∷ vs) a ≡ gives b → time (last_of w vs) ≡ gives (known (time (last_of w vs)))) → time (last_of w vs) ≡ gives (known (time (last_of w vs)))
+        → (met time (w ∷ vs) a ≡ gives b → time (last_of w vs) ≡ gives (known (time (last_of w vs))))
+        → time (last_of w vs) ≡ gives (known (time (last_of w vs)))
     go (gives z) q r = r q
     go (refuses x c) q r = absurd (gives-refuses (sym q))
 
@@ -114,7 +109,8 @@ module _ (levels : Levels) (s : List ℕ) (whole : stop_all levels s ≡ gives t
   listed-value : (v : ℕ) → 1 ≤ v → v ≤ levels.pins → fetched_at levels s v ≡ value (stored list v)
   unfolding stored
   listed-value v h k =
-      node-value v (time_above list v) (time_of list v) (fetched_at levels s v) (rw (above_at list (fetched_at levels s) v h (λ d. node-time (v / 2) d (omega arith))) at (sym (time-step (fetched_at levels s) v h)) ∙ node-time v h k)
+      let above = above_at list (fetched_at levels s) v h (λ d. node-time (v / 2) d (omega arith)) in
+      node-value v (time_above list v) (time_of list v) (fetched_at levels s v) (rw above at (sym (time-step (fetched_at levels s) v h)) ∙ node-time v h k)
 
   -- ---- the levels
 

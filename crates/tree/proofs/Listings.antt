@@ -1,22 +1,27 @@
 -- A listing by stretches: what is listed of a left side, the root and a right side, one after the other.
+use Rattle.std.proofs.lemmas.List.{drop-replicate}
+use Rattle.std.proofs.Common.{Result, Ok, Err}
 use mathlib.Core.Path.{◌≡◌, refl, sym, ap, subst, ◌∙◌}
 use mathlib.Core.Bool.{Bool, true, false}
 use mathlib.Core.List.{List, [], ◌∷◌, ◌++◌, append-nil}
-use Prim.Native.Nat.{ℕ, zero, suc, ◌+◌, ◌-◌, ◌*◌, ◌≤◌, ◌<◌}
+use Prim.Native.Nat.{ℕ, zero, suc, ◌+◌, ◌-◌, ◌≤◌, ◌<◌}
 use native.Mathlib.Nat.{zero-add, add-zero, add-suc}
 use native.Mathlib.Omega.{arith}
-use lib.ListN.{length, drop, set, get_or, replicate, length-append, drop_of_length-le}
+use lib.ListN.{length, set, get_or, replicate, length-append}
 use borrow.Author.Tests.{lt-ltb, le-ltb}
 use Rattle.codes.specs.Lists.{replaced, filled_to}
 use Rattle.codes.proofs.Promises.{list-laws}
 use Rattle.tree.specs.declared.nodes.Levels.{Levels}
+use Rattle.tree.specs.declared.nodes.Refusal.{Refusal}
+use Rattle.tree.specs.declared.listing.Stop.{Stop}
+use Rattle.tree.specs.declared.shape.Stretch.{Stretch}
 use Rattle.tree.specs.Shape.{root_place, child_of, side_of, rank}
 use Rattle.tree.specs.Stored.{time_of}
 use Rattle.tree.specs.declared.walking.Found.{Found}
 use Rattle.tree.specs.Outcomes.{Outcome, gives, refuses, follow, after, Test}
-use Rattle.tree.specs.Times.{times_in}
+use Rattle.tree.specs.Times.{refusal, times_in}
 use Rattle.tree.specs.Walks.{found, toward, access_answer}
-use Rattle.tree.specs.Listing.{accesses, times_from, stop_from, times_all, stop_all}
+use Rattle.tree.specs.Listing.{accesses, times_from, stop_from, times_all, stop_all, Lists}
 use Rattle.tree.specs.Standing.{Stands, Reaches}
 use Rattle.tree.specs.Merged.{KnownRanks}
 use Rattle.tree.proofs.Outcomes.{gives-refuses}
@@ -93,26 +98,39 @@ ranks-known levels s list pins known =
 
 -- ---- at a node
 
-module _ {levels : Levels} {s : List ℕ} {v depth start pins above : ℕ}
-    (w : Stands levels s v depth (record { start = start; pins = pins }) above) (reach : Reaches levels s v depth (record { start = start; pins = pins })) (some : 1 ≤ pins) where
+module _ {levels : Levels} {s : List ℕ} {v depth above : ℕ} {here : Stretch}
+    (w : Stands levels s v depth here above) (reach : Reaches levels s v depth here) (some : 1 ≤ here.pins) where
+  abbrev start : ℕ
+  start = here.start
+
+  abbrev pins : ℕ
+  pins = here.pins
+
+  abbrev place : ℕ
+  place = root_place here.pins
+
   node : v ≤ levels.pins
   node = stands-node w some
 
-  pub listed-refused : (r u : ℕ) → times_in levels s v ≡ refuses r u
-      → (stop_from (accesses levels s) pins start ≡ refuses r u) × (times_from (accesses levels s) pins start ≡ [])
-  listed-refused r u e =
-      listed_here (accesses levels s) pins start r u some
-      (sym (reach start (omega arith) (omega arith)) ∙ access-refused levels.pins (times_in levels s) start depth v r u w.one node e)
+  pub lists-refused : {r : Refusal} → times_in levels s v ≡ refusal r → (times : List ℕ)
+      → Lists (accesses levels s) pins start (Err (record { position = start; refusal = r })) × (times ≡ replaced times start (times_from (accesses levels s) pins start))
+  lists-refused {r} e times =
+      let z = listed_here (accesses levels s) pins start _ _ some
+      (sym (reach start (omega arith) (omega arith)) ∙ access-refused levels.pins (times_in levels s) start depth v _ _ w.one node e) in
+      rw z.1 (
+        record { outcome = sym z.0; ends = rw z.1 (sym (add-zero start)) },
+        sym (list-laws.replaced_none times start),
+      )
 
-  module _ (x : ℕ) (e : times_in levels s v ≡ gives x) (place : ℕ) (p : place ≡ root_place pins) where
+  module _ {x : ℕ} (e : times_in levels s v ≡ gives x) where
     place_is : (1 ≤ place) × (place ≤ pins)
-    place_is = rw p (stands-place w node)
+    place_is = stands-place w node
 
     rank_is : rank levels.pins v ≡ start + (place - 1)
     rank_is = stands-rank w ∙ omega (arith, place_is)
 
     -- accesses to a side come to its root
-    reach-child : (right : Bool) → Reaches levels s (child_of right v) (depth + 1) (side_of right (record { start = start; pins = pins }))
+    reach-child : (right : Bool) → Reaches levels s (child_of right v) (depth + 1) (side_of right here)
     reach-child true i lo hi =
         let r : rank levels.pins v < i = omega (arith, rank_is, place_is) in
         rw (lt-ltb (rank levels.pins v) i r) at (sym (access-step levels.pins (times_in levels s) i depth v x w.one node e (λ z. omega arith)))
@@ -122,72 +140,64 @@ module _ {levels : Levels} {s : List ℕ} {v depth start pins above : ℕ}
         rw (le-ltb (rank levels.pins v) i (omega arith)) at (sym (access-step levels.pins (times_in levels s) i depth v x w.one node e (λ z. omega arith)))
         ∙ reach i (omega arith) (omega (arith, place_is))
 
-    pub stands-left : Stands levels s (2 * v) (depth + 1) (record { start = start; pins = place - 1 }) x × Reaches levels s (2 * v) (depth + 1) (record { start = start; pins = place - 1 })
-    unfolding child_of
-    stands-left = rw p (stands-child w false x node e, reach-child false)
+    pub stands-side : (right : Bool) {side : Stretch} → side ≡ side_of right here
+        → Stands levels s (child_of right v) (depth + 1) side x × Reaches levels s (child_of right v) (depth + 1) side
+    stands-side right is = rw is (stands-child w right x node e, reach-child right)
 
-    pub stands-right : Stands levels s (2 * v + 1) (depth + 1) (record { start = start + place; pins = pins - place }) x
-        × Reaches levels s (2 * v + 1) (depth + 1) (record { start = start + place; pins = pins - place })
-    unfolding child_of
-    stands-right = rw p (stands-child w true x node e, reach-child true)
+    abbrev before-it : List ℕ
+    before-it = times_from (accesses levels s) (place - 1) start
 
-    module _ (before left : List ℕ) (done : left ≡ replaced before start (times_from (accesses levels s) (place - 1) start)) where
-      split : suc (pins - place) + (place - 1) ≡ pins
-      split = omega (arith, place_is)
+    abbrev after-it : List ℕ
+    after-it = times_from (accesses levels s) (pins - place) (start + place)
 
-      next : suc (start + (place - 1)) ≡ start + place
-      next = omega (arith, place_is)
+    abbrev first : Test
+    first = stop_from (accesses levels s) (place - 1) start
 
-      time-here : accesses levels s (start + (place - 1)) ≡ gives (found x (depth + 1))
-      time-here =
-          sym (reach (start + (place - 1)) (omega arith) (omega (arith, place_is)))
-          ∙ access-end levels.pins (times_in levels s) (start + (place - 1)) depth v x w.one node e rank_is
+    time-here : accesses levels s (start + (place - 1)) ≡ gives (found x (depth + 1))
+    time-here =
+        sym (reach (start + (place - 1)) (omega arith) (omega (arith, place_is)))
+        ∙ access-end levels.pins (times_in levels s) (start + (place - 1)) depth v x w.one node e rank_is
 
-      abbrev first : Test
-      first = stop_from (accesses levels s) (place - 1) start
+    both : (stop_from (accesses levels s) pins start ≡ after first (λ _. stop_from (accesses levels s) (pins - place) (start + place)))
+        × (times_from (accesses levels s) pins start ≡ before-it ++ unless_refused first (x ∷ after-it))
+    both =
+        let split : suc (pins - place) + (place - 1) ≡ pins = omega (arith, place_is) in
+        let next : suc (start + (place - 1)) ≡ start + place = omega (arith, place_is) in
+        rw (split, next) at (listed-around (accesses levels s) (place - 1) (pins - place) start x (depth + 1) time-here)
 
-      abbrev before-it : List ℕ
-      before-it = times_from (accesses levels s) (place - 1) start
+    -- the left side ends the listing
+    pub lists-left : {side : Stretch} → side ≡ side_of false here → {r : Result (Unit {0}) Stop} {q : Stop} → r ≡ Err q
+        → Lists (accesses levels s) side.pins side.start r → (before left : List ℕ)
+        → left ≡ replaced before side.start (times_from (accesses levels s) side.pins side.start)
+        → Lists (accesses levels s) pins start (Err q) × (left ≡ replaced before start (times_from (accesses levels s) pins start))
+    lists-left is {r} {q} stops l before left done =
+        let z : Lists (accesses levels s) (place - 1) start (Err q) = rw (is, stops) at l in
+        let times : times_from (accesses levels s) pins start ≡ before-it = both.1 ∙ rw (← z.outcome) (append-nil before-it) in
+        (record { outcome = sym (both.0 ∙ rw (← z.outcome)); ends = rw times z.ends }, rw times (rw is at done))
 
-      abbrev after-it : List ℕ
-      after-it = times_from (accesses levels s) (pins - place) (start + place)
-
-      both : (stop_from (accesses levels s) pins start ≡ after first (λ _. stop_from (accesses levels s) (pins - place) (start + place)))
-          × (times_from (accesses levels s) pins start ≡ before-it ++ unless_refused first (x ∷ after-it))
-      both = rw (split, next) at (listed-around (accesses levels s) (place - 1) (pins - place) start x (depth + 1) time-here)
-
-      -- the left side ends the listing
-      pub listed-left : {i r c : ℕ} → refuses r c ≡ first → i ≡ start + length before-it
-          → (refuses r c ≡ stop_from (accesses levels s) pins start) × (i ≡ start + length (times_from (accesses levels s) pins start))
-          × (left ≡ replaced before start (times_from (accesses levels s) pins start))
-      listed-left q e =
-          let times : times_from (accesses levels s) pins start ≡ before-it = both.1 ∙ rw (← q) (append-nil before-it) in
-          (sym (both.0 ∙ rw (← q)), rw times e, rw times done)
-
-      -- the right side ends it, or nothing does
-      pub listed-right : gives tt ≡ first → start + pins ≤ length before → {z : Test} {i : ℕ} {after : List ℕ}
-          → z ≡ stop_from (accesses levels s) (pins - place) (start + place) → i ≡ start + place + length after-it
-          → after ≡ replaced (set left (start + place - 1) x) (start + place) after-it
-          → (z ≡ stop_from (accesses levels s) pins start) × (i ≡ start + length (times_from (accesses levels s) pins start))
-          × (after ≡ replaced before start (times_from (accesses levels s) pins start))
-      listed-right q room a e b =
-          let times : times_from (accesses levels s) pins start ≡ before-it ++ x ∷ after-it = both.1 ∙ rw (← q) in
-          let l = times-all (accesses levels s) (place - 1) start (sym q) in
-          let n : start + place - 1 + 1 ≡ start + place = omega (arith, place_is) in (
-            a ∙ sym (both.0 ∙ rw (← q)),
-            rw times (e ∙ omega (arith, place_is, l, length-append before-it (x ∷ after-it))),
-            rw times (b ∙ rw done (rw n at (list-laws.replaced_around before start (start + place - 1) before-it x after-it (omega (arith, place_is, l)) (omega (arith, place_is))))),
-          )
+    -- the right side ends it, or nothing does
+    pub lists-right : {l : Stretch} → l ≡ side_of false here → {p : Result (Unit {0}) Stop} → p ≡ Ok tt → Lists (accesses levels s) l.pins l.start p
+        → (before left : List ℕ) → left ≡ replaced before l.start (times_from (accesses levels s) l.pins l.start) → start + pins ≤ length before
+        → {r : Stretch} → r ≡ side_of true here → {q : Result (Unit {0}) Stop} → Lists (accesses levels s) r.pins r.start q
+        → (after : List ℕ) → after ≡ replaced (set left (start + place - 1) x) r.start (times_from (accesses levels s) r.pins r.start)
+        → Lists (accesses levels s) pins start q × (after ≡ replaced before start (times_from (accesses levels s) pins start))
+    lists-right il all-there fine before left done room ir {q} later after-all last =
+        let y : Lists (accesses levels s) (place - 1) start (Ok tt) = rw (il, all-there) at fine in
+        let z : Lists (accesses levels s) (pins - place) (start + place) q = rw ir at later in
+        let times : times_from (accesses levels s) pins start ≡ before-it ++ x ∷ after-it = both.1 ∙ rw (← y.outcome) in
+        let l = times-all (accesses levels s) (place - 1) start (sym y.outcome) in
+        let n : start + place - 1 + 1 ≡ start + place = omega (arith, place_is) in
+        let all : start + pins ≡ start + place + (pins - place) = omega (arith, place_is) in (
+          record {
+            outcome = z.outcome ∙ sym (both.0 ∙ rw (← y.outcome));
+            ends = rw (times, all) (z.ends ∙ omega (arith, place_is, l, length-append before-it (x ∷ after-it)));
+          },
+          rw times ((rw ir at last) ∙ rw (rw il at done)
+              (rw n at (list-laws.replaced_around before start (start + place - 1) before-it x after-it (omega (arith, place_is, l)) (omega (arith, place_is))))),
+        )
 
 -- ---- a buffer that is 0 behind its entries
 
-drop-zeros : (k n : ℕ) → drop k (replicate {A = ℕ} n 0) ≡ replicate (n - k) 0
-drop-zeros zero n = let e : n ≡ n - 0 = omega arith in ap (λ (m : ℕ). replicate {A = ℕ} m 0) e
-drop-zeros (suc k) zero = let e : 0 ≡ 0 - suc k = omega arith in ap (λ (m : ℕ). replicate {A = ℕ} m 0) e
-drop-zeros (suc k) (suc n) = let e : n - k ≡ suc n - suc k = omega arith in drop-zeros k n ∙ ap (λ (m : ℕ). replicate {A = ℕ} m 0) e
-
--- entries written to the front of n that were made 0
-pub filled-front : (n : ℕ) (out xs : List ℕ) {zs after : List ℕ} → length out ≡ n → zs ≡ replicate n 0 ++ drop n out → after ≡ replaced zs 0 xs → after ≡ filled_to n xs
-filled-front n out xs e z f =
-    let zeros = z ∙ ap (λ (zs : List ℕ). replicate n 0 ++ zs) (drop_of_length-le out {i = n} (omega arith)) ∙ append-nil (replicate n 0) in
-    f ∙ rw (zeros, zero-add (length xs)) (ap (λ (zs : List ℕ). xs ++ zs) (drop-zeros (length xs) n))
+-- entries written to the front of n zeros
+pub filled-front : (n : ℕ) (xs : List ℕ) {zs after : List ℕ} → zs ≡ replicate n 0 → after ≡ replaced zs 0 xs → after ≡ filled_to n xs
+filled-front n xs z f = f ∙ rw (z, zero-add (length xs)) (ap (λ (zs : List ℕ). xs ++ zs) (drop-replicate (length xs) n 0))

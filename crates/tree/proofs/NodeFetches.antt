@@ -1,14 +1,14 @@
 -- What is fetched for a node, by the number of levels above it.
-use mathlib.Core.Path.{◌≡◌}
+use mathlib.Core.Path.{◌≡◌, sym, ◌∙◌}
 use mathlib.Core.Bool.{true}
 use mathlib.Core.List.{List}
-use Prim.Native.Nat.{ℕ, suc, ◌+◌, ◌-◌, ◌*◌, ◌^◌, ◌≤◌, ◌<◌, min}
+use Prim.Native.Nat.{ℕ, ◌+◌, ◌-◌, ◌*◌, ◌^◌, ◌≤◌, ◌<◌, min}
 use native.Mathlib.Nat.{pow-succ'}
 use native.Mathlib.Omega.{arith}
-use lib.ListN.{length, get_or, length-take}
+use lib.ListN.{length, get_or}
 use lib.Pow.{pow_pos, pow_mono}
 use Rattle.codes.specs.Codes.{kind_of, is_exact}
-use Rattle.codes.specs.Fetch.{fetched, Inside}
+use Rattle.codes.specs.Fetch.{Fetched, fetched, Inside}
 use Rattle.codes.proofs.Promises.{exact-parts}
 use Rattle.tree.specs.declared.nodes.Levels.{Levels}
 use Rattle.tree.specs.Levels.{count_of, level_of, code_of, part_of, fetched_at, Fits}
@@ -17,13 +17,6 @@ use Rattle.tree.proofs.Heights.{height-is, height-above, height_bound}
 -- how many nodes the level below d others has
 pub count_is : (n d : ℕ) → count_of n d ≡ min (n + 1 - 2 ^ d) (2 ^ d)
 count_is n d = rw (pow-succ' 2 d) (omega (arith, pow_pos d))
-
--- from node `first` to node `last`
-pub count-between : (n d first last : ℕ) → first ≡ 2 ^ d → last ≡ min n (2 * first - 1) → last - (first - 1) ≡ count_of n d
-count-between n d first last e l = rw (l, e, pow-succ' 2 d) (less (min n (2 * 2 ^ d - 1)) (2 ^ d) (pow_pos d))
-  where
-    less : (m p : ℕ) → 1 ≤ p → m - (p - 1) ≡ suc m - p
-    less m p h = omega arith
 
 -- the level of a node
 pub level-is : (d v : ℕ) → 2 ^ d ≤ v → v < 2 * 2 ^ d → level_of v ≡ d
@@ -39,13 +32,17 @@ pub fetched-from : (at : Levels) (s : List ℕ) (d v first : ℕ) → first ≡ 
 unfolding fetched_at
 fetched-from at s d v first e lo hi = rw (e, level-is d v lo hi)
 
+-- what a fetch finds there
+pub found-at : (at : Levels) (s : List ℕ) (d v : ℕ) {first count : ℕ} {bytes : List ℕ} {x : Fetched} → first ≡ 2 ^ d → 2 ^ d ≤ v → v < 2 * 2 ^ d
+    → count ≡ count_of at.pins d → bytes ≡ part_of at.ends s d → x ≡ fetched (code_of at d) count (v - first) bytes → fetched_at at s v ≡ x
+found-at at s d v {first} e lo hi n p x = fetched-from at s d v first e lo hi ∙ sym (rw (n, p) at x)
+
 -- a level that has a node lies in the bytes, in a fixed code exactly as long as its values need
 pub record Level (at : Levels) (s : List ℕ) (d : ℕ) : Type 0 where
   pub deep : d < 16
   pub few : at.pins < 65536
   pub in_order : get_or at.ends d 0 ≤ get_or at.ends (d + 1) 0
   pub inside : get_or at.ends (d + 1) 0 ≤ length s
-  pub short : get_or at.ends (d + 1) 0 - get_or at.ends d 0 < 4294967296
   pub exact : is_exact (kind_of (code_of at d)) (count_of at.pins d) (length (part_of at.ends s d)) ≡ true
 
 pub pins-bound : (at : Levels) (s : List ℕ) → Fits at s → at.pins < 65536
@@ -59,13 +56,10 @@ level-fits {at} {s} {d} f lo hi =
       few = pins-bound at s f;
       in_order = f.in_order d h;
       inside = f.inside d h;
-      short = f.short d h;
       exact = f.exact d h;
     }
 
-pub part-short : {at : Levels} {s : List ℕ} {d : ℕ} → Level at s d → length (part_of at.ends s d) < 2 ^ 32
-part-short l = rw length-take (omega (arith, l.short))
-
--- so a fixed value of a node lies in its part
-pub node-inside : {at : Levels} {s : List ℕ} {d : ℕ} → Level at s d → (j : ℕ) → j < count_of at.pins d → Inside (kind_of (code_of at d)) j (length (part_of at.ends s d))
+-- a fixed value of a node lies in its part
+pub node-inside : {at : Levels} {s : List ℕ} {d : ℕ} → Level at s d → (j : ℕ) → j < count_of at.pins d
+    → Inside (kind_of (code_of at d)) j (length (part_of at.ends s d))
 node-inside {at} {s} {d} l j h = exact-parts.inside (kind_of (code_of at d)) (count_of at.pins d) (length (part_of at.ends s d)) j l.exact h

@@ -1,11 +1,10 @@
 -- The stretches of missing children, and the node of a rank: in the full tree of 2 ^ (j + 1) - 1 nodes, of which some of the last level may
 -- be missing here, a node with k levels below it has the place (2 m + 1) * 2 ^ k, counted from 1, where m nodes are before it on its level.
-use mathlib.Core.Path.{◌≡◌, refl, sym, ap, ◌∙◌}
-use Prim.Native.Nat.{ℕ, zero, suc, ◌+◌, ◌-◌, ◌*◌, ◌/◌, ◌%◌, ◌^◌, ◌≤◌, ◌<◌}
-use native.Mathlib.Nat.{pow-succ', div-div-eq-div-mul, lt_of_not-le}
-use native.Mathlib.Omega.{arith}
+use Rattle.std.proofs.Common.{◌≡◌, refl, sym, ap, ◌∙◌, ℕ, zero, suc, ◌+◌, ◌-◌, ◌*◌, ◌/◌, ◌%◌, ◌^◌, ◌≤◌, ◌<◌, lt_of_not-le, arith, pow_pos, pow_mono}
+use Rattle.std.proofs.Common.{pow-add, shr_lt}
+use native.Mathlib.Nat.{pow-succ', div-div-eq-div-mul}
 use lib.Count.{count_trailing_zeros, under}
-use lib.Pow.{pow_pos, pow_mono, pow-add, shr_lt, high}
+use lib.Pow.{high}
 use Rattle.tree.specs.Shape.{height, stretch, rank}
 use Rattle.tree.proofs.Heights.{height-zero, digits, place-small}
 use Rattle.tree.proofs.Stretches.{stretch-root, stretch-left, stretch-right, Child, left, right, child, pins-at}

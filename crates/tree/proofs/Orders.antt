@@ -1,14 +1,8 @@
 -- In an ordered list the times smaller than t are the first ones.
-use mathlib.Core.Path.{◌≡◌, refl, sym, ◌∙◌}
-use mathlib.Core.Bool.{Bool, true, false, cond}
-use mathlib.Core.List.{List, [], ◌∷◌}
-use Prim.Native.Nat.{ℕ, zero, suc, ◌≤◌, ◌<◌}
-use native.Mathlib.Nat.{le_refl}
+use Rattle.std.proofs.Common.{◌≡◌, refl, sym, ◌∙◌, Bool, true, false, cond, List, [], ◌∷◌, ℕ, zero, suc, ◌≤◌, ◌<◌, le_refl, arith, T, ltb, leb, length}
+use Rattle.std.proofs.Common.{get_or, lt-ltb, le-ltb, leb-true, ltb-true}
 use native.Mathlib.Decide.{dec_lt}
-use native.Mathlib.Omega.{arith}
-use lib.Dec.{T, ltb, leb, leb-suc-suc}
-use lib.ListN.{length, get_or}
-use borrow.Author.Tests.{lt-ltb, le-ltb, leb-true, ltb-true}
+use lib.Dec.{leb-suc-suc}
 use Rattle.tree.specs.Lists.{ordered, smaller}
 
 smaller-more : (t x : ℕ) (xs : List ℕ) → x < t → smaller t (x ∷ xs) ≡ suc (smaller t xs)

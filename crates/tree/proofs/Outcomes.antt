@@ -1,8 +1,5 @@
 -- The first refusal among outcomes decides; where there is none the value is given.
-use mathlib.Core.Path.{◌≡◌, refl, sym}
-use mathlib.Core.List.{List, [], ◌∷◌, ◌++◌, append-nil}
-use Prim.Native.Nat.{ℕ}
-use native.Mathlib.Omega.{arith}
+use Rattle.std.proofs.Common.{◌≡◌, refl, sym, List, [], ◌∷◌, ◌++◌, append-nil, ℕ, arith}
 use Rattle.tree.specs.Outcomes.{Outcome, gives, refuses, after, verdict}
 
 -- what is given is not refused, and is one thing

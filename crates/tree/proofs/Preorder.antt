@@ -1,16 +1,9 @@
 -- A sweep opens nodes in preorder, on any strip: a node comes before what lies under it, and what lies under its left child before its right
 -- child. So each node is opened later than the one before it, and on one level the numbers rise.
-use mathlib.Core.Path.{◌≡◌, refl, sym, ap}
-use mathlib.Core.Bool.{Bool, true, false, cond}
-use mathlib.Core.List.{List, [], ◌∷◌, ◌++◌}
-use mathlib.Core.Logic.{inl, inr}
-use Prim.Native.Nat.{ℕ, zero, suc, ◌+◌, ◌-◌, ◌*◌, ◌^◌, ◌≤◌, ◌<◌}
-use native.Mathlib.Nat.{pow-succ', mul-le-mul_right, le_refl}
+use Rattle.std.proofs.Common.{◌≡◌, refl, sym, ap, Bool, true, false, cond, List, [], ◌∷◌, ◌++◌, inl, inr, ℕ, zero, suc, ◌+◌, ◌-◌, ◌*◌, ◌^◌, ◌≤◌, ◌<◌}
+use Rattle.std.proofs.Common.{mul-le-mul_right, le_refl, arith, length, get_or, pow_pos, lt-ltb, le-ltb, ne_eqb}
+use native.Mathlib.Nat.{pow-succ'}
 use native.Mathlib.Decide.{dec_lt}
-use native.Mathlib.Omega.{arith}
-use lib.ListN.{length, get_or}
-use lib.Pow.{pow_pos}
-use borrow.Author.Tests.{lt-ltb, le-ltb, ne_eqb}
 use Rattle.tree.specs.Shape.{height, child_of}
 use Rattle.tree.specs.Levels.{level_of}
 use Rattle.tree.specs.Outcomes.{Outcome}
@@ -172,7 +165,8 @@ module _ (n : ℕ) (past : ℕ → Bool) where
     | no m ↦
         let among : v ≤ n = omega arith in
         let c = child_of (past v) v in
-        let later = walks f v c (cond (past v) kept (v ∷ kept)) (omega (arith, child-bounds (past v) v)) (child-after n v one among (past v)) (under-child n v one among (past v) kept k) in
+        let later = walks f v c (cond (past v) kept (v ∷ kept)) (omega (arith, child-bounds (past v) v)) (child-after n v one among (past v))
+        (under-child n v one among (past v) kept k) in
         rw (le-ltb n v among) (record { rises = (b, later.rises); ends = later.ends })
   ]
 
@@ -189,7 +183,8 @@ module _ (n : ℕ) (past : ℕ → Bool) where
       (there (omega (arith, child-bounds true r)) (sooner (omega arith)) (under-child n r k.0 k.1 true rs k.3)) in
       go (past r) later
     where
-      go : (b : Bool) → Ends n u (dropped past (child_of true r) rs).kept × Starts n u (dropped past (child_of true r) rs).from (dropped past (child_of true r) rs).kept
+      go : (b : Bool)
+          → Ends n u (dropped past (child_of true r) rs).kept × Starts n u (dropped past (child_of true r) rs).from (dropped past (child_of true r) rs).kept
           → let d = cond b (dropped past (child_of true r) rs) (record { from = from; kept = r ∷ rs }) in Ends n u d.kept × Starts n u d.from d.kept
       go true later = later
       go false later = (record { end = end; inside = i; under = k }, s)
@@ -204,7 +199,8 @@ module _ (n : ℕ) (past : ℕ → Bool) where
       let w = walks (suc (height n) - height from) u from kept one b k in
       rising-join n u (walk n never past from) (later (remember past (walk n never past from) kept)) w.rises (rest _ _ w.ends)
 
-opens : (n : ℕ) (time : ℕ → Outcome ℕ) (u from : ℕ) (kept ts : List ℕ) → Ends n u kept → Starts n u from kept → Rising n u (opened (legs_from n time from kept ts))
+opens : (n : ℕ) (time : ℕ → Outcome ℕ) (u from : ℕ) (kept ts : List ℕ) → Ends n u kept → Starts n u from kept
+    → Rising n u (opened (legs_from n time from kept ts))
 unfolding legs_from opened Rising
 opens n time u from kept [] e s = tt
 opens n time u from kept (t ∷ ts) e s =

@@ -27,7 +27,7 @@ use Rattle.tree.proofs.Contents.{times-back}
 use Rattle.tree.proofs.Listings.{times-all, times-known}
 use Rattle.tree.proofs.TimeBounds.{access-small, times-within}
 use Rattle.tree.proofs.ListedValues.{listed-chosen}
-use Rattle.tree.proofs.LevelMarks.{marks-zero}
+use Rattle.tree.proofs.LevelMarks.{marks-none}
 use Rattle.tree.proofs.AllValues.{all_of}
 use Rattle.tree.proofs.LevelsChosen.{undecoded-other, codes-chosen}
 use Rattle.tree.proofs.LevelValues.{length-stored, stored-within, level_within, level_count, level-half, level-above, fetched-stored}
@@ -109,7 +109,7 @@ decoded-chosen = record {
 }
 
 pub zero-marks : ZeroMarks
-zero-marks = marks-zero
+zero-marks = marks-none
 
 pub outcome-laws : OutcomeLaws
 outcome-laws = record { same = gives_same; never = gives-refuses; append = verdict-append; given = verdict-gives }

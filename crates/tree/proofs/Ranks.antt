@@ -1,12 +1,7 @@
 -- The ranks of the nodes 1 to n are 0 to n - 1.
-use mathlib.Core.Path.{◌≡◌, sym, ap, subst}
-use mathlib.Core.Bool.{Bool, true, false}
-use Prim.Native.Nat.{ℕ, zero, suc, ◌*◌, ◌+◌, ◌/◌, ◌%◌, ◌≤◌, ◌<◌}
-use native.Mathlib.Nat.{le_refl}
+use Rattle.std.proofs.Common.{◌≡◌, sym, ap, subst, Bool, true, false, ℕ, zero, suc, ◌*◌, ◌+◌, ◌/◌, ◌%◌, ◌≤◌, ◌<◌, le_refl, arith, eqb}
 use native.Mathlib.Decide.{dec_lt}
-use native.Mathlib.Omega.{arith}
 use lib.Arith.{half_le}
-use lib.Dec.{eqb}
 use Rattle.tree.specs.Shape.{child_of, rank}
 use Rattle.tree.specs.Filled.{Under, here, below}
 use Rattle.tree.proofs.Stretches.{stretch-left, stretch-right, rank-in}

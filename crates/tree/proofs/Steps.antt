@@ -1,8 +1,9 @@
 -- One turn of the loops of search and of a target, and one node of a listing, is one step of the definition.
+use Rattle.std.proofs.Common.{Result}
 use mathlib.Core.Path.{◌≡◌, sym, ap, ◌∙◌}
 use mathlib.Core.Bool.{Bool, true, false, cond}
 use mathlib.Core.List.{List, ◌∷◌}
-use Prim.Native.Nat.{ℕ, suc, ◌+◌, ◌-◌, ◌^◌, ◌≤◌, ◌<◌}
+use Prim.Native.Nat.{ℕ, suc, ◌+◌, ◌-◌, ◌≤◌, ◌<◌}
 use native.Mathlib.Nat.{zero-add, le_refl}
 use native.Mathlib.Numerals.{add-one}
 use native.Mathlib.Omega.{arith}
@@ -10,18 +11,20 @@ use lib.Dec.{ltb}
 use lib.ListN.{length}
 use borrow.Author.Tests.{eq-eqb, ne_eqb}
 use Rattle.tree.specs.declared.shape.Stretch.{Stretch}
+use Rattle.codes.specs.declared.marking.Mark.{Mark}
 use Rattle.tree.specs.declared.nodes.Levels.{Levels}
+use Rattle.tree.specs.declared.nodes.Refusal.{Refusal}
 use Rattle.tree.specs.Shape.{height, root_place, child_of, side_of, rank}
 use Rattle.tree.specs.Levels.{fetched_at, Fits}
 use Rattle.tree.specs.LevelMarks.{LevelMarks}
 use Rattle.tree.specs.declared.walking.Found.{Found}
 use Rattle.tree.specs.Outcomes.{Outcome, gives, refuses, known, verdict}
-use Rattle.tree.specs.Times.{time_told, under, times_in}
+use Rattle.tree.specs.Times.{outcome, times_in}
 use Rattle.tree.specs.Walks.{found, met, toward_from, toward, last_of, access_answer, is_below, search_nodes, remember, position, kept_from, target_from}
-use Rattle.tree.specs.Standing.{Stands, Openable, access_from}
+use Rattle.tree.specs.Standing.{Stands, Openable, Opens, access_from}
 use Rattle.tree.proofs.Heights.{height-is}
 use Rattle.tree.proofs.Stretches.{stretch-root, stretch-child, side-in, pins-of-node, node-of-pins, no_pins, place-some, rank_is}
-use Rattle.tree.proofs.NodeTimes.{time-above, time-step, told-time}
+use Rattle.tree.proofs.NodeTimes.{time-above, time-step}
 use Rattle.tree.proofs.NodeFetches.{Level, level-fits}
 use Rattle.tree.proofs.Walks.{child-bounds, parent_of, walk-out, walk-on, toward-on, met-fine, met-refused}
 
@@ -66,15 +69,12 @@ module _ {levels : Levels} {s : List ℕ} {v depth : ℕ} {here : Stretch} {abov
   pub stands-level : Fits levels s → v ≤ levels.pins → Level levels s depth
   stands-level f k = level-fits f w.low k
 
-  pub stands-opens : Fits levels s → {marks : List ℕ} → LevelMarks levels.ends s marks → v ≤ levels.pins → Openable levels s marks depth v
-  stands-opens f m k = record { fits = f; marks = m; low = w.low; high = w.high; among = k }
+  pub stands-opens : {marks : List Mark} → LevelMarks levels.ends s marks → v ≤ levels.pins → Openable levels s marks depth v
+  stands-opens m k = record { marks = m; low = w.low; high = w.high; among = k }
 
-  -- what opening the node tells is its time
-  pub stands-told : (told : ℕ) → time_told v told ≡ under v (gives above) (fetched_at levels s v) → times_in levels s v ≡ time_told v told
-  stands-told told e = time-step (fetched_at levels s) v w.one ∙ rw w.parent (sym e)
-
-  pub stands-time : {told : ℕ} → time_told v told ≡ under v (gives above) (fetched_at levels s v) → told < 2 ^ 32 → times_in levels s v ≡ gives told
-  stands-time {told} e h = stands-told told e ∙ told-time v told h
+  -- what comes of opening the node is its time
+  pub stands-time : {ms : List Mark} {r : Result ℕ Refusal} → Opens levels s ms above v r → times_in levels s v ≡ outcome r
+  stands-time o = time-step (fetched_at levels s) v w.one ∙ rw w.parent (sym o.time)
 
   pub stands-child : (right : Bool) (t : ℕ) → v ≤ levels.pins → times_in levels s v ≡ gives t
       → Stands levels s (child_of right v) (depth + 1) (side_of right here) t

@@ -1,18 +1,11 @@
 -- The stretches of the nodes: node v is among 1 to n exactly where its stretch has pins.
-use mathlib.Core.Path.{◌≡◌, ap, ◌∙◌}
-use mathlib.Core.Logic.{◌≢◌, ◌↔◌}
-use mathlib.Core.Bool.{Bool, true, false, cond}
-use Prim.Native.Nat.{ℕ, zero, suc, ◌+◌, ◌-◌, ◌*◌, ◌/◌, ◌%◌, ◌^◌, ◌≤◌, ◌<◌, min}
-use native.Mathlib.Nat.{le_refl, pow-succ'}
+use Rattle.std.proofs.Common.{◌≡◌, ap, ◌∙◌, ◌≢◌, ◌↔◌, Bool, true, false, ℕ, zero, suc, ◌+◌, ◌-◌, ◌*◌, ◌/◌, ◌%◌, ◌^◌, ◌≤◌, ◌<◌, min, le_refl, arith}
+use Rattle.std.proofs.Common.{eqb, pow_pos, pow_mono, le-ltb}
+use native.Mathlib.Nat.{pow-succ'}
 use native.Mathlib.Decide.{dec_lt, ℕ_discrete}
-use native.Mathlib.Omega.{arith}
-use lib.Dec.{eqb}
 use lib.Arith.{half_le}
-use lib.Pow.{pow_pos, pow_mono}
-use borrow.Author.Tests.{le-ltb}
 use Rattle.tree.specs.declared.shape.Stretch.{Stretch}
 use Rattle.tree.specs.Shape.{root_place, child_of, side_of, stretch_in, stretch, rank}
-use Rattle.tree.specs.Standing.{StretchIs}
 use Rattle.tree.proofs.Heights.{height-step, digits, place-law, place_in, place-small}
 
 -- ---- a stretch from its parent's
@@ -76,7 +69,8 @@ place-under n k u i =
 pins-left : (n u b : ℕ) → 1 ≤ b → suc (b + min (suc n - u * (2 * b)) b - 1) ≡ b + min b (suc n - 2 * u * b)
 pins-left n u b h = omega arith
 
-pins-right : (n u b p : ℕ) → suc p ≡ 2 * b + min (2 * b) (suc n - u * (2 * b)) → suc (p - (b + min (suc n - u * (2 * b)) b)) ≡ b + min b (suc n - (2 * u + 1) * b)
+pins-right : (n u b p : ℕ) → suc p ≡ 2 * b + min (2 * b) (suc n - u * (2 * b))
+    → suc (p - (b + min (suc n - u * (2 * b)) b)) ≡ b + min b (suc n - (2 * u + 1) * b)
 pins-right n u b p e = omega arith
 
 -- under a node v at depth d: with k levels between it and the last, its full levels have 2 ^ k - 1 nodes, and of
@@ -180,26 +174,18 @@ pub rank-in : (n v : ℕ) → 1 ≤ v → v ≤ n → (suc (rank n v) ≡ (stret
 unfolding rank
 rank-in n v a b = let p = place_in (stretch n v).pins (pins-of-node n v a b) in omega arith
 
--- ---- a stretch by its two numbers
+-- ---- a node's stretch, by any name
 
-pub place-some : (n : ℕ) {u start pins : ℕ} → 1 ≤ u → u ≤ n → StretchIs n u start pins → (1 ≤ root_place pins) × (root_place pins ≤ pins)
-place-some n {u} {start} {pins} h k e = place_in pins (rw e at (pins-of-node n u h k))
+pub place-some : (n : ℕ) {u : ℕ} {here : Stretch} → 1 ≤ u → u ≤ n → stretch n u ≡ here → (1 ≤ root_place here.pins) × (root_place here.pins ≤ here.pins)
+place-some n {u} {here} h k e = place_in here.pins (rw e at (pins-of-node n u h k))
 
-pub is-child : (side : Bool) (n : ℕ) {u start pins : ℕ} → 1 ≤ u → StretchIs n u start pins → stretch n (child_of side u) ≡ side_of side (record { start = start; pins = pins })
+pub is-child : (side : Bool) (n : ℕ) {u : ℕ} {here : Stretch} → 1 ≤ u → stretch n u ≡ here → stretch n (child_of side u) ≡ side_of side here
 is-child side n {u} h e = stretch-child n side u h ∙ ap (side_of side) e
 
 -- of two or three pins one stands before the root
 pub few-place : (pins : ℕ) → 2 ≤ pins → pins ≤ 3 → root_place pins ≡ 2
 few-place pins two three = place-law 0 pins (pins - 1) (omega arith) (omega arith) ∙ omega arith
 
-pub few-side : (side : Bool) (n : ℕ) {u start pins : ℕ} → 1 ≤ u → StretchIs n u start pins → 2 ≤ pins → pins ≤ 3
-    → StretchIs n (child_of side u) (cond side (start + 2) start) (cond side (pins - 2) 1)
-few-side side n {u} {start} {pins} h e two three = is-child side n h e ∙ go side
-  where
-    go : (side : Bool) → side_of side (record { start = start; pins = pins }) ≡ record { start = cond side (start + 2) start; pins = cond side (pins - 2) 1 }
-    go true = rw (few-place pins two three)
-    go false = rw (few-place pins two three)
-
-pub rank_is : (n v : ℕ) {start pins : ℕ} → StretchIs n v start pins → rank n v ≡ start + root_place pins - 1
+pub rank_is : (n v : ℕ) {here : Stretch} → stretch n v ≡ here → rank n v ≡ here.start + root_place here.pins - 1
 unfolding rank
 rank_is n v e = rw e

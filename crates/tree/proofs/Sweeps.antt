@@ -1,20 +1,15 @@
 -- A sweep gives each target the position that its search gives, and opens each node on the targets' paths once.
-use mathlib.Core.Path.{◌≡◌, refl, sym, ap, ap₂, ◌∙◌}
-use mathlib.Core.Bool.{Bool, true, false, cond}
-use mathlib.Core.List.{List, [], ◌∷◌, map}
-use Prim.Native.Nat.{ℕ, zero, suc, ◌+◌, ◌*◌, ◌≤◌, ◌<◌, min, max}
-use native.Mathlib.Nat.{le_refl}
+use Rattle.std.proofs.Common.{◌≡◌, refl, sym, ap, ap₂, ◌∙◌, Bool, true, false, cond, List, [], ◌∷◌, map, ℕ, zero, suc, ◌+◌, ◌*◌, ◌≤◌, ◌<◌, min, max}
+use Rattle.std.proofs.Common.{le_refl, arith, T, eqb, ltb, length}
 use native.Mathlib.Decide.{dec_lt}
-use native.Mathlib.Omega.{arith}
-use lib.Dec.{T, eqb, ltb}
-use lib.ListN.{length}
 use Rattle.codes.specs.Bits.{sum}
 use Rattle.tree.specs.Shape.{height, child_of, rank}
 use Rattle.tree.specs.Lists.{ordered, smaller}
 use Rattle.tree.specs.Stored.{time_of}
 use Rattle.tree.specs.Outcomes.{Outcome, gives}
 use Rattle.tree.specs.Walks.{walk, Among, never, is_below, remember, position, kept_from, path}
-use Rattle.tree.specs.Sweeps.{Dropped, dropped, Leg, leg, legs_from, legs, opened, sweep_nodes, sweep_answer, positions, sweep_positions, occurrences, on_path, sum_to, over_different, different}
+use Rattle.tree.specs.Sweeps.{Dropped, dropped, Leg, leg, legs_from, legs, opened, sweep_nodes, sweep_answer, positions, sweep_positions, occurrences}
+use Rattle.tree.specs.Sweeps.{on_path, sum_to, over_different, different}
 use Rattle.tree.proofs.Orders.{smaller-mono, ordered-head}
 use Rattle.tree.proofs.Walks.{walk-out, walk-length, among-append, walk-among, met-none}
 use Rattle.tree.proofs.Inorder.{Tree, out, node, tree, tree-le}
@@ -161,7 +156,8 @@ unfolding dropped child_of
 from-one past from [] h = h
 from-one past from (v ∷ vs) h = go (past v) (from-one past (child_of true v) vs (omega arith))
   where
-    go : (b : Bool) → 1 ≤ (dropped past (child_of true v) vs).from → 1 ≤ (cond b (dropped past (child_of true v) vs) (record { from = from; kept = v ∷ vs })).from
+    go : (b : Bool) → 1 ≤ (dropped past (child_of true v) vs).from
+        → 1 ≤ (cond b (dropped past (child_of true v) vs) (record { from = from; kept = v ∷ vs })).from
     go true l = l
     go false l = h
 
@@ -202,7 +198,8 @@ module _ (xs : List ℕ) (time : ℕ → Outcome ℕ) (fine : (v : ℕ) → 1 �
   later-target : (s t : ℕ) → s ≤ t → TargetGoes (dropped (is_below time t) (suc (length xs)) (kept_at s)) t (on xs s)
   unfolding Continues dropped
   later-target s t h =
-      let r = continues (length xs) (is_below time s) (is_below time t) (smaller s xs) (smaller t xs) (search-cuts xs time fine o s) (search-cuts xs time fine o t)
+      let r = continues (length xs) (is_below time s) (is_below time t) (smaller s xs) (smaller t xs)
+      (search-cuts xs time fine o s) (search-cuts xs time fine o t)
       (tree (length xs)) (smaller-mono s t xs h) [] (λ g. refl) in
       (r.0, r.1, λ v. omega (arith, r.2 v, on-search t v, on-search s v))
 
@@ -220,14 +217,16 @@ module _ (xs : List ℕ) (time : ℕ → Outcome ℕ) (fine : (v : ℕ) → 1 �
       → LegsGo (t ∷ ts) (l ∷ legs_from (length xs) time (suc (length xs)) l.kept ts) before
   unfolding opened positions
   next-leg l t ts {before} a k e later = rw k record {
-    cover = λ v. rw (occurrences-append v l.nodes _, some-cons xs t ts v) (covered (before v) (on xs t v) _ _ (some xs ts v) (some_one xs ts v) (e v) (later.cover v));
+    cover = λ v. rw (occurrences-append v l.nodes _, some-cons xs t ts v)
+        (covered (before v) (on xs t v) _ _ (some xs ts v) (some_one xs ts v) (e v) (later.cover v));
     places =
         rw (met-none (length xs) time (time_of xs) fine (position (length xs) (kept_at t)) l.nodes a)
         (ap₂ (λ (x : ℕ) (ys : List ℕ). x ∷ ys) (search-position xs time fine o t) later.places);
   }
 
   target-leg : (from : ℕ) (kept : List ℕ) (t : ℕ) (ts : List ℕ) {before : ℕ → ℕ} → TargetGoes (dropped (is_below time t) from kept) t before
-      → LegsGo ts (legs_from (length xs) time (suc (length xs)) (kept_at t) ts) (on xs t) → LegsGo (t ∷ ts) (legs_from (length xs) time from kept (t ∷ ts)) before
+      → LegsGo ts (legs_from (length xs) time (suc (length xs)) (kept_at t) ts) (on xs t)
+      → LegsGo (t ∷ ts) (legs_from (length xs) time from kept (t ∷ ts)) before
   unfolding legs_from visits
   target-leg from kept t ts r later =
       let d = dropped (is_below time t) from kept in

@@ -1,10 +1,6 @@
 -- Every time that access gives, and so every time that is listed, has 32 bits.
-use mathlib.Core.Path.{◌≡◌, refl, ap}
-use mathlib.Core.List.{List, [], ◌∷◌}
-use Prim.Native.Nat.{ℕ, zero, suc, ◌+◌, ◌/◌, ◌%◌, ◌^◌, ◌<◌}
+use Rattle.std.proofs.Common.{◌≡◌, refl, ap, List, [], ◌∷◌, ℕ, zero, suc, ◌+◌, ◌/◌, ◌%◌, ◌^◌, ◌<◌, arith, lt-ltb, le-ltb, ne_eqb}
 use native.Mathlib.Decide.{dec_lt, ℕ_discrete}
-use native.Mathlib.Omega.{arith}
-use borrow.Author.Tests.{lt-ltb, le-ltb, ne_eqb}
 use Rattle.codes.specs.Codes.{Within}
 use Rattle.codes.specs.Fetch.{Fetched, value, outside}
 use Rattle.tree.specs.declared.nodes.Levels.{Levels}
@@ -49,7 +45,8 @@ access-small levels s i f e =
 pub times-within : (levels : Levels) (s : List ℕ) (k i : ℕ) → Within 32 (times_from (accesses levels s) k i)
 unfolding times_from
 times-within levels s zero i j = omega arith
-times-within levels s (suc k) i j = go (accesses levels s i) (access-small levels s i) (times_from (accesses levels s) k (suc i)) (times-within levels s k (suc i)) j
+times-within levels s (suc k) i j =
+    go (accesses levels s i) (access-small levels s i) (times_from (accesses levels s) k (suc i)) (times-within levels s k (suc i)) j
   where
     go : (x : Outcome Found) → ((f : Found) → x ≡ gives f → f.value < 2 ^ 32) → (later : List ℕ) → Within 32 later
         → Within 32 (follow (λ r c. []) x (λ f. f.value ∷ later))

@@ -1,13 +1,8 @@
 -- A walk goes from a node to one of its children, and has at most as many nodes as the height.
-use mathlib.Core.Path.{◌≡◌, refl, ap, ◌∙◌}
-use mathlib.Core.Bool.{Bool, true, false, cond}
-use mathlib.Core.List.{List, [], ◌∷◌, ◌++◌, map, map-append}
-use Prim.Native.Nat.{ℕ, zero, suc, ◌+◌, ◌-◌, ◌*◌, ◌/◌, ◌%◌, ◌≤◌, ◌<◌}
+use Rattle.std.proofs.Common.{◌≡◌, refl, ap, ◌∙◌, Bool, true, false, cond, List, [], ◌∷◌, ◌++◌, map, ℕ, zero, suc, ◌+◌, ◌-◌, ◌*◌, ◌/◌, ◌%◌, ◌≤◌, ◌<◌}
+use Rattle.std.proofs.Common.{arith, eqb, ltb, length, lt-ltb, le-ltb, eq-eqb, ne_eqb}
+use mathlib.Core.List.{map-append}
 use native.Mathlib.Decide.{dec_lt, ℕ_discrete}
-use native.Mathlib.Omega.{arith}
-use lib.Dec.{eqb, ltb}
-use lib.ListN.{length}
-use borrow.Author.Tests.{lt-ltb, le-ltb, eq-eqb, ne_eqb}
 use Rattle.tree.specs.Shape.{height, child_of, rank}
 use Rattle.tree.specs.Outcomes.{Outcome, gives, refuses, after, verdict}
 use Rattle.tree.specs.Walks.{walk_in, walk, Among, met, toward_from}
@@ -105,7 +100,9 @@ module _ (n : ℕ) (stop past past' : ℕ → Bool) (same : (v : ℕ) → 1 ≤ 
   walk_in-same zero v h = refl
   walk_in-same (suc f) v h = elim (dec_lt n v) [
     | yes k ↦ rw (lt-ltb n v k)
-    | no k ↦ rw (same v h (omega arith)) (ap (λ (l : List ℕ). cond (ltb n v) [] (v ∷ cond (stop v) [] l)) (walk_in-same f (child_of (past' v) v) (omega (arith, child-bounds (past' v) v))))
+    | no k ↦
+        let later = walk_in-same f (child_of (past' v) v) (omega (arith, child-bounds (past' v) v)) in
+        rw (same v h (omega arith)) (ap (λ (l : List ℕ). cond (ltb n v) [] (v ∷ cond (stop v) [] l)) later)
   ]
 
   pub walk_same : (v : ℕ) → 1 ≤ v → walk n stop past v ≡ walk n stop past' v

@@ -1,7 +1,6 @@
 -- Listing: the times at the positions from 0 on, up to the first that access refuses.
-use Rattle.std.specs.Prelude.{◌≡◌, List, [], ◌∷◌, ℕ, zero, suc, ◌+◌, length}
-use Rattle.tree.specs.declared.listing.Listed.{Listed}
-use Rattle.tree.specs.declared.listing.Listed.TheVariants as listing
+use Rattle.std.specs.Prelude.{Result, Ok, Err, ◌≡◌, List, [], ◌∷◌, ℕ, zero, suc, ◌+◌, length}
+use Rattle.tree.specs.declared.listing.Stop.{Stop}
 use Rattle.tree.specs.declared.nodes.Levels.{Levels}
 use Rattle.tree.specs.declared.walking.Found.{Found}
 use Rattle.tree.specs.Outcomes.{Outcome, gives, follow, after, Test}
@@ -31,16 +30,16 @@ abbrev pub stop_all : Levels → List ℕ → Test
 stop_all levels s = stop_from (accesses levels s) levels.pins 0
 
 -- the answer of the code
-abbrev pub listed : Listed → Test
-listed listing.All = gives tt
-listed (listing.Refused i r) = refusal r
+abbrev pub listed : Result (Unit {0}) Stop → Test
+listed (Ok _) = gives tt
+listed (Err s) = refusal s.refusal
 
 -- the position where it ends, of those before `last`
-abbrev pub end_of : Listed → ℕ → ℕ
-end_of listing.All last = last
-end_of (listing.Refused i r) last = i
+abbrev pub end_of : Result (Unit {0}) Stop → ℕ → ℕ
+end_of (Ok _) last = last
+end_of (Err s) last = s.position
 
 -- it tells the first refusal at k positions from i on, and ends behind the times before it
-pub record Lists (answer : ℕ → Outcome Found) (k i : ℕ) (r : Listed) : Type 0 where
+pub record Lists (answer : ℕ → Outcome Found) (k i : ℕ) (r : Result (Unit {0}) Stop) : Type 0 where
   pub outcome : listed r ≡ stop_from answer k i
   pub ends : end_of r (i + k) ≡ i + length (times_from answer k i)

@@ -21,7 +21,8 @@ KnownRanks levels s k times = (v : ℕ) → 1 ≤ v → v ≤ k → times_in lev
 pub record MergedFrom (before stored : List ℕ) (above j : ℕ) (now : List ℕ) : Type 0 where
   pub kept : length now ≡ length before
   pub unread : (i : ℕ) → suc i < 2 * j → get_or now i 0 ≡ get_or before i 0
-  pub nodes : (i : ℕ) → j ≤ i → i < length stored → gives (get_or now (2 * i) 0) ≡ under (suc above + i) (gives (get_or before (i / 2 * 2) 0)) (value (get_or stored i 0))
+  pub nodes : (i : ℕ) → j ≤ i → i < length stored
+      → gives (get_or now (2 * i) 0) ≡ under (suc above + i) (gives (get_or before (i / 2 * 2) 0)) (value (get_or stored i 0))
   pub entries : (r : ℕ) → j ≤ suc r → r < above → get_or now (r + min (suc r) (length stored)) 0 ≡ get_or before r 0
 
 -- a step of the merge, from node `next` down to node j

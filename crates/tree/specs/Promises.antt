@@ -7,6 +7,7 @@ use Rattle.codes.specs.Codes.{part, Within}
 use Rattle.codes.specs.Choice.{chosen}
 use Rattle.codes.specs.Fetch.{outside}
 use Rattle.codes.specs.Decode.{all}
+use Rattle.codes.specs.Marks.{none}
 use Rattle.tree.specs.declared.nodes.Levels.{Levels}
 use Rattle.tree.specs.Shape.{height, side_of, stretch, rank}
 use Rattle.tree.specs.Lists.{ordered, smaller}
@@ -124,9 +125,9 @@ pub record DecodedChosen : Type 0 where
   pub values : (levels : Levels) (s values : List ℕ) → Decodes levels s true values → decoded_levels levels s ≡ all values
   pub others : (levels : Levels) (s values : List ℕ) → Decodes levels s false values → all_chosen levels s ≡ false
 
--- 10. Entries that are all 0 are marks of any levels, however many they are.
+-- 10. Marks of no bits are marks of any levels, however many they are.
 abbrev pub ZeroMarks : Type 0
-ZeroMarks = (ends s : List ℕ) (n : ℕ) → LevelMarks ends s (replicate n 0)
+ZeroMarks = (ends s : List ℕ) (n : ℕ) → LevelMarks ends s (replicate n none)
 
 -- 11. What is given is not refused, and is one thing. Of outcomes in order the first refusal decides, and what is given does not.
 pub record OutcomeLaws : Type 1 where

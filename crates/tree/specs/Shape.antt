@@ -1,9 +1,7 @@
 -- The shape of the tree: nodes are numbered as in a heap, and each has a stretch of the list under it.
-use Rattle.std.specs.Prelude.{Bool, true, false, cond, ℕ, zero, suc, ◌+◌, ◌-◌, ◌*◌, ◌/◌, ◌%◌, ◌^◌, eqb, ltb}
+use Rattle.std.specs.Prelude.{Bool, true, false, cond, Option, Some, None, ℕ, zero, suc, ◌+◌, ◌-◌, ◌*◌, ◌/◌, ◌%◌, ◌^◌, eqb, ltb}
 use Rattle.codes.specs.Choice.{width_in}
 use Rattle.tree.specs.declared.shape.Stretch.{Stretch}
-use Rattle.tree.specs.declared.shape.Ranked.{Ranked}
-use Rattle.tree.specs.declared.shape.Ranked.TheVariants.{At, NoNode}
 
 -- The height of n pins, the least h with 2 ^ h - 1 ≥ n, as `HeightLeast` in Promises says: the bits of n up to its highest one bit, of
 -- which there are no more than n.
@@ -43,5 +41,5 @@ unfoldable pub rank : ℕ → ℕ → ℕ
 rank n v = (stretch n v).start + root_place (stretch n v).pins - 1
 
 -- the rank of a number that is one of the nodes 1 to n
-unfoldable pub ranked : ℕ → ℕ → Ranked
-ranked n v = cond (eqb v 0) NoNode (cond (ltb n v) NoNode (At (rank n v)))
+unfoldable pub ranked : ℕ → ℕ → Option ℕ
+ranked n v = cond (eqb v 0) None (cond (ltb n v) None (Some (rank n v)))

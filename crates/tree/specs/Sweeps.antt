@@ -1,10 +1,7 @@
 -- Sweeps: the nodes that many targets open in one walk, what a sweep answers by them, and the different nodes on the targets' paths.
 use Rattle.std.specs.Prelude.{Bool, true, false, cond, ◌||◌, List, [], ◌∷◌, ◌++◌, ℕ, zero, suc, ◌+◌, eqb, ltb, length}
-use Rattle.tree.specs.declared.sweeping.Swept.{Swept}
-use Rattle.tree.specs.declared.sweeping.Swept.TheVariants as sweeping
 use Rattle.tree.specs.Shape.{child_of}
-use Rattle.tree.specs.Outcomes.{Outcome, gives, follow}
-use Rattle.tree.specs.Times.{refusal}
+use Rattle.tree.specs.Outcomes.{Outcome, follow}
 use Rattle.tree.specs.Walks.{met, is_below, search_nodes, position, kept_from, path}
 
 -- the nodes still remembered, and the node to go on from
@@ -55,11 +52,6 @@ positions n time (l ∷ ls) = follow (λ r c. []) (met time l.nodes (position n 
 
 abbrev pub sweep_positions : ℕ → (ℕ → Outcome ℕ) → List ℕ → List ℕ
 sweep_positions n time ts = positions n time (legs n time ts)
-
--- the answer of the code
-abbrev pub swept : Swept → Outcome ℕ
-swept (sweeping.Nodes k) = gives k
-swept (sweeping.Refused r) = refusal r
 
 -- ---- different nodes
 

@@ -1,5 +1,5 @@
 -- The times that are found going down, any of which may be refused.
-use Rattle.std.specs.Prelude.{cond, List, ℕ, zero, suc, ◌+◌, ◌-◌, ◌/◌, ◌%◌, ◌^◌, eqb, ltb}
+use Rattle.std.specs.Prelude.{Result, Ok, Err, cond, List, ℕ, zero, suc, ◌+◌, ◌-◌, ◌/◌, ◌%◌, ◌^◌, eqb, ltb}
 use Rattle.codes.specs.Fetch.{Fetched, value, outside}
 use Rattle.tree.specs.declared.nodes.Levels.{Levels}
 use Rattle.tree.specs.declared.nodes.Refusal.{Refusal}
@@ -21,6 +21,11 @@ node_of (refusals.Time v) = v
 abbrev pub refusal : {A : Type 0} → Refusal → Outcome A
 refusal r = refuses (number_of r) (node_of r)
 
+-- the answer of the code
+abbrev pub outcome : {A : Type 0} → Result A Refusal → Outcome A
+outcome (Ok a) = gives a
+outcome (Err r) = refusal r
+
 -- Node v's time by its parent's and by what is fetched for it. A fetch that fails is refusal 9, a time below 0 or above
 -- 4,294,967,295 refusal 10.
 abbrev pub under : ℕ → Outcome ℕ → Fetched → Outcome ℕ
@@ -30,10 +35,6 @@ under v (gives p) (value d) =
     cond (eqb (v % 2) 0)
     (cond (ltb p d) (refuses 10 v) (gives (p - d)))
     (cond (ltb (p + d) (2 ^ 32)) (gives (p + d)) (refuses 10 v))
-
--- a number as node v's time: from 2 ^ 32 on refusal 10, from 2 ^ 33 on refusal 9
-abbrev pub time_told : ℕ → ℕ → Outcome ℕ
-time_told v x = cond (ltb x (2 ^ 32)) (gives x) (refuses (cond (ltb x (2 ^ 33)) 10 9) v)
 
 -- by the parent's time, f times; above the root the time is 0
 unfoldable pub node_time_in : ℕ → (ℕ → Fetched) → ℕ → Outcome ℕ

@@ -1,12 +1,9 @@
 -- Walks down the tree: the nodes that they open, in order, and what access and search answer by them.
 use Rattle.std.specs.Prelude.{Bool, false, cond, List, [], ◌∷◌, map, ℕ, zero, suc, ◌+◌, ◌-◌, ◌/◌, ◌≤◌, eqb, ltb, length}
 use Rattle.tree.specs.declared.walking.Found.{Found}
-use Rattle.tree.specs.declared.walking.Walked.{Walked}
-use Rattle.tree.specs.declared.walking.Walked.TheVariants as walking
 use Rattle.tree.specs.Shape.{height, child_of, rank}
 use Rattle.tree.specs.Stored.{time_of}
-use Rattle.tree.specs.Outcomes.{Outcome, gives, known, verdict}
-use Rattle.tree.specs.Times.{refusal}
+use Rattle.tree.specs.Outcomes.{Outcome, known, verdict}
 
 -- A walk asks two things of a node: does it end here, and if not, does it leave by the right side? `stop v` and `past v` are
 -- the answers for node v. These are the nodes that it opens from node v on, until no child, f at most.
@@ -32,11 +29,6 @@ met time nodes a = verdict (map time nodes) a
 -- what a walk gives: what was asked for, and the nodes opened
 abbrev pub found : ℕ → ℕ → Found
 found x k = record { value = x; nodes = k }
-
--- the answer of the code
-abbrev pub walked : Walked → Outcome Found
-walked (walking.Found f) = gives f
-walked (walking.Refused r) = refusal r
 
 -- ---- access
 

@@ -10,12 +10,12 @@ mod nodes; // where the levels stand in a strip; one node's stored value and tim
 mod shape; // height, root place, stretches and ranks
 mod sweeping; // sweep
 mod targets; // one target of a sweep
+mod tree; // a strip's bytes with its levels
 mod walking; // access and search
 
 pub use building::{construct, level_values};
-pub use decoding::are_chosen;
-pub use listing::{Listed, Listing, list};
+pub use listing::{Listing, Stop};
 pub use nodes::{GREATEST, Levels, Refusal};
-pub use shape::{Ranked, count_of, height, rank, root_place};
-pub use sweeping::{Swept, sweep};
-pub use walking::{Found, Walked, access, search};
+pub use shape::{count_of, height, rank, root_place};
+pub use tree::Tree;
+pub use walking::Found;

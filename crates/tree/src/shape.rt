@@ -2,29 +2,39 @@
 ghost use Rattle.std.specs.Prelude.{◌≡◌, ℕ, ◌+◌, ◌/◌, ◌^◌, ◌≤◌, ◌<◌};
 ghost use Rattle.tree.specs.Shape.{height, root_place, side_of, child_of, stretch, rank, ranked};
 ghost use Rattle.tree.specs.Levels.{count_of};
-ghost use Rattle.tree.specs.Standing.{StretchIs};
-
-use codes::least;
 
 // The stretch of the list under a node: where it starts and how many pins it has.
-#[derive(Clone, Copy)]
+#[derive(Clone, Copy, Debug, PartialEq, Eq)]
 pub(crate) struct Stretch {
     pub(crate) start: usize,
     pub(crate) pins: usize,
 }
 
-// A node's position in the whole list, or that the number is no node's.
-#[derive(Clone, Copy)]
-pub enum Ranked {
-    At(usize),
-    NoNode,
+impl Stretch {
+    // The stretch under a child of its root, which has this place in it: what follows or what precedes the root.
+    pub(crate) fn side(self, place: usize, right: bool) -> Stretch
+        requires { (1 ≤ self.pins) × (place ≡ root_place self.pins) × (self.start + self.pins < 2 ^ 64) }
+        ensures { result ≡ side_of right self }
+    {
+        if right {
+            Stretch {
+                start: self.start + place,
+                pins: self.pins - place,
+            }
+        } else {
+            Stretch {
+                start: self.start,
+                pins: place - 1,
+            }
+        }
+    }
 }
 
 // The least h with 2^h - 1 at least n: the bits of n up to its highest one bit.
 pub fn height(n: usize) -> usize
     ensures { result ≡ height n }
 {
-    (64 - usize::leading_zeros(n)) as usize
+    (usize::BITS - n.leading_zeros()) as usize
 }
 
 pub(crate) fn power_of_two(k: usize) -> usize
@@ -40,7 +50,7 @@ pub fn count_of(n: usize, d: usize) -> usize
     ensures { (result ≤ n) × (result ≡ count_of n d) }
 {
     let first = power_of_two(d);
-    least(n - (first - 1), first)
+    (n - (first - 1)).min(first)
 }
 
 // The root's place in a list of n, counted from 1. An empty list has no root, which 0 says.
@@ -55,28 +65,12 @@ pub fn root_place(n: usize) -> usize
 }
 
 // The number of a node's child.
+#[tactic(auto, unfolding(crate::specs::Shape::child_of))]
 pub(crate) fn child_of(v: usize, right: bool) -> usize
     requires { v < 2 ^ 63 }
     ensures { result ≡ child_of right v }
 {
     if right { 2 * v + 1 } else { 2 * v }
-}
-
-// The stretch under a child: what follows or what precedes the place of the root in its parent's stretch.
-pub(crate) fn side_of(s: Stretch, place: usize, right: bool) -> Stretch
-    requires { (1 ≤ s.pins) × (place ≡ root_place s.pins) × (s.start + s.pins < 2 ^ 64) }
-    ensures { result ≡ side_of right s }
-{
-    if right {
-        return Stretch {
-            start: s.start + place,
-            pins: s.pins - place,
-        };
-    }
-    Stretch {
-        start: s.start,
-        pins: place - 1,
-    }
 }
 
 // The node of rank i. In the full tree of the same height a node with k levels below it has the place (2m + 1) 2^k, counted from 1, where
@@ -88,12 +82,8 @@ pub(crate) fn node_of(n: usize, i: usize) -> usize
 {
     let first = power_of_two(height(n) - 1);
     let leaves = 2 * (n + 1 - first);
-    let place = if i < leaves {
-        i + 1
-    } else {
-        2 * i + 2 - leaves
-    };
-    (2 * first + place) >> (usize::trailing_zeros(place) + 1)
+    let place = i + 1 + (i + 1).saturating_sub(leaves);
+    (2 * first + place) >> (place.trailing_zeros() + 1)
 }
 
 // Where the stretch of a missing child v starts, which has no pins. From left to right the missing children are the places before, between
@@ -110,33 +100,28 @@ pub(crate) fn missing_at(n: usize, v: usize) -> usize
     }
 }
 
-// The rank of node v, where the node `depth` levels above it has the stretch of `pins` from `start` on.
-fn rank_under(start: usize, pins: usize, v: usize, depth: usize) -> usize
-    requires depth_bound { (depth < 64) × (start + pins < 2 ^ 64) × (1 ≤ v / 2 ^ depth) }
-    requires by_index { (n : ℕ) × (v ≤ n) × StretchIs n (v / 2 ^ depth) start pins }
-    ensures { (n : ℕ) → StretchIs n (v / 2 ^ depth) start pins → result ≡ rank n v }
+// The rank of node v, where the node `depth` levels above it has this stretch. The nodes above v are its number shifted, and one bit tells
+// on which side it stands below each.
+fn rank_under(here: Stretch, v: usize, depth: usize) -> usize
+    requires depth_bound { (depth < 64) × (here.start + here.pins < 2 ^ 64) × (1 ≤ v / 2 ^ depth) }
+    requires among { (n : ℕ) × (v ≤ n) × (stretch n (v / 2 ^ depth) ≡ here) }
+    ensures { (n : ℕ) → stretch n (v / 2 ^ depth) ≡ here → result ≡ rank n v }
 {
-    let place = root_place(pins);
+    let place = root_place(here.pins);
     if depth == 0 {
-        return start + place - 1;
+        return here.start + place - 1;
     }
-    let here = Stretch {
-        start: start,
-        pins: pins,
-    };
-    let side = side_of(here, place, (v >> (depth - 1)) % 2 == 1);
-    rank_under(side.start, side.pins, v, depth - 1)
+    let side = here.side(place, (v >> (depth - 1)) % 2 == 1);
+    rank_under(side, v, depth - 1)
 }
 
-// The rank of node v in a list of n.
-pub fn rank(n: usize, v: usize) -> Ranked
+// The rank of node v in a list of n. Any other number has none.
+pub fn rank(n: usize, v: usize) -> Option<usize>
     ensures { result ≡ ranked n v }
 {
-    if v == 0 {
-        return Ranked::NoNode;
+    if v == 0 || n < v {
+        return None;
     }
-    if n < v {
-        return Ranked::NoNode;
-    }
-    Ranked::At(rank_under(0, n, v, height(v) - 1))
+    let all = Stretch { start: 0, pins: n };
+    Some(rank_under(all, v, height(v) - 1))
 }

@@ -2,7 +2,7 @@
 use native.Mathlib.Omega.{arith}
 use mathlib.Core.Path.{sym, ap, ◌∙◌}
 use lib.ListN.{length}
-use Rattle.strip.specs.Calls.{checked}
+use Rattle.strip.specs.Refusals.{outcome}
 use Rattle.pinlist.proofs.Listings.{prints-too-long}
 use Rattle.pinlist.proofs.print.Goals as goal
 
@@ -13,7 +13,7 @@ pub returns-then-s-gt65536 : goal.returns-then-s-gt65536
 returns-then-s-gt65536 c = let s = c.args.s.now in c.write_next.ensures ∙ ap length (sym (prints-too-long s (omega arith)))
 
 pub print_list-requires : goal.print_list-requires
-print_list-requires c = (omega arith, sym c.check-checked.ensures ∙ ap checked c.in-Pins.is)
+print_list-requires c = (omega arith, sym c.check.ensures ∙ ap outcome c.in-Ok.is)
 
 pub print_refusal-requires : goal.print_refusal-requires
-print_refusal-requires c = rw (c.number.ensures, c.carried.ensures) (omega arith, sym c.check-checked.ensures ∙ ap checked c.in-Refused.is)
+print_refusal-requires c = rw (c.number.ensures, c.carried.ensures) (omega arith, sym c.check.ensures ∙ ap outcome c.in-Err.is)

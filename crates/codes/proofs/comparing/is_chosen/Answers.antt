@@ -16,7 +16,7 @@ its_size : (vs : List ℕ) (code : ℕ) (r : Choice) → r ≡ chosen vs → r.c
 its_size vs code r e h = let same : (chosen vs).code ≡ code = rw e at h in (same, rw (e, ← same) (chosen-size vs))
 
 pub returns-then-choice-code : goal.returns-then-choice-code
-returns-then-choice-code c = sym (other-code c.args.code c.args.values.now c.args.part.now (rw c.choose-choice.ensures at c.if-choice-code.true))
+returns-then-choice-code c = sym (other-code c.args.code c.args.values.now c.args.part.bytes.now (rw c.choose-choice.ensures at c.if-choice-code.true))
 
 -- whole bytes for n bits
 whole : (n r : ℕ) → r ≡ div_ceil n 8 → r ≡ bytes_for n
@@ -25,13 +25,13 @@ whole n r e = omega (arith, e)
 pub returns-then-part-div_ceil : goal.returns-then-part-div_ceil
 returns-then-part-div_ceil c =
     let s = its_size c.args.values.now c.args.code c.choose-choice.result c.choose-choice.ensures c.if-choice-code.false in
-    sym (other_length c.args.code c.args.values.now c.args.part.now (rw (whole _ _ c.div_ceil.ensures, s.1) at c.if-part-div_ceil.true))
+    sym (other_length c.args.code c.args.values.now c.args.part.bytes.now (rw (whole _ _ c.div_ceil.ensures, s.1) at c.if-part-div_ceil.true))
 
 pub returns : goal.returns
 returns c =
     let vs = c.args.values.now in
-    let bytes = c.args.part.now in
+    let bytes = c.args.part.bytes.now in
     let s = its_size vs c.args.code c.choose-choice.result c.choose-choice.ensures c.if-choice-code.false in
-    let w : Within 8 bytes = λ j. (c.type_inv.part j).fits in
-    rw s.1 at c.zeros_after.ensures ∙ sym (same-part c.args.code (length vs) bytes vs c.requires.part_value w (rw (whole _ _ c.div_ceil.ensures, s.1) at c.if-part-div_ceil.false))
+    let w : Within 8 bytes = c.zeros_after.ensures.fit in
+    rw s.1 at c.zeros_after.ensures.zeros ∙ sym (same-part c.args.code (length vs) bytes vs c.requires.part_value w (rw (whole _ _ c.div_ceil.ensures, s.1) at c.if-part-div_ceil.false))
     ∙ sym (chosen-code c.args.code vs bytes s.0)

@@ -4,4 +4,4 @@ use Rattle.std.proofs.Common.{arith}
 use Rattle.codes.proofs.counting.add_two.Goals as goal
 
 pub returns : goal.returns
-returns c = omega (arith, two-words c.args.part.now c.args.first c.args.step, c.add_bits.ensures, c.ones_word-2.ensures, c.ones_word.ensures)
+returns c = omega (arith, two-words c.args.part.bytes.now c.args.first c.args.step, c.add_bits.ensures, c.ones_word-2.ensures, c.ones_word.ensures)

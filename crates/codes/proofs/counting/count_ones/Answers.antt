@@ -18,4 +18,4 @@ returns c =
     let rest = c.args.to - (start + words * 64) in
     let e : c.args.to - c.args.from ≡ head + (words * 64 + rest) = parts c.args.from c.args.to head (words * 64) (omega arith) in
     let in_words_lem = rw (whole c.args.from) at c.ones_in_words.ensures.1 in
-    (omega arith, rw (e, ones-more c.args.part.now c.args.from head (words * 64 + rest), ones-more c.args.part.now start (words * 64) rest) (omega arith))
+    (omega arith, rw (e, ones-more c.args.part.bytes.now c.args.from head (words * 64 + rest), ones-more c.args.part.bytes.now start (words * 64) rest) (omega arith))

@@ -13,5 +13,5 @@ loop-i-preserved c =
     let at = (c.args.first + i * 8) * 8 in
     let e : (i + 1) * 64 ≡ i * 64 + 64 = omega arith in
     let e' : c.args.first * 8 + i * 64 ≡ at = omega arith in
-    let more = rw e' at (ones-more c.args.part.now (c.args.first * 8) (i * 64) 64) in
+    let more = rw e' at (ones-more c.args.part.bytes.now (c.args.first * 8) (i * 64) 64) in
     rw (e, more) (omega arith, omega (arith, c.ones_word.ensures))

@@ -4,4 +4,4 @@ use Rattle.codes.specs.Bits.{sum, bits_of}
 use Rattle.codes.proofs.counting.ones_in_few.Given as goal
 
 abbrev pub invariant-loop-i : goal.invariant-loop-i
-invariant-loop-i l = (l.count ≤ l.i * 64) × (l.count ≡ sum (take (l.i * 64) (drop (l.first * 8) (bits_of l.part))))
+invariant-loop-i l = (l.count ≤ l.i * 64) × (l.count ≡ sum (take (l.i * 64) (drop (l.first * 8) (bits_of l.part.bytes.now))))

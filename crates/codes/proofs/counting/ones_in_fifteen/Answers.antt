@@ -7,7 +7,7 @@ pub returns : goal.returns
 returns c =
     omega (
       arith,
-      fifteen-words c.args.part.now c.args.first c.args.step,
+      fifteen-words c.args.part.bytes.now c.args.first c.args.step,
       c.ones_of-4.ensures,
       c.ones_of-3.ensures,
       c.ones_of-2.ensures,

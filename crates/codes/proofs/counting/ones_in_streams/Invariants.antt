@@ -5,4 +5,4 @@ use Rattle.codes.specs.Streams.{in_streams}
 use Rattle.codes.proofs.counting.ones_in_streams.Given as goal
 
 abbrev pub invariant-loop-i : goal.invariant-loop-i
-invariant-loop-i l = (l.count ≤ l.i * 960) × (l.count ≡ in_streams 15 l.i l.part l.first l.step)
+invariant-loop-i l = (l.count ≤ l.i * 960) × (l.count ≡ in_streams 15 l.i l.part.bytes.now l.first l.step)

@@ -8,4 +8,4 @@ returns c =
     let turns = c.args.words / 30 * 2 in
     let e : c.args.words * 64 ≡ turns * 960 + c.args.words % 30 * 64 = omega arith in
     let e' : c.args.first * 8 + turns * 960 ≡ (c.args.first + turns * 120) * 8 = omega arith in
-    rw (e, ones-more c.args.part.now (c.args.first * 8) (turns * 960) (c.args.words % 30 * 64), e') (omega arith)
+    rw (e, ones-more c.args.part.bytes.now (c.args.first * 8) (turns * 960) (c.args.words % 30 * 64), e') (omega arith)

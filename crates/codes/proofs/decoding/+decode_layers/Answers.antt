@@ -26,16 +26,16 @@ front rests xs later h e =
 pub returns-then-n-eq0 : goal.returns-then-n-eq0
 returns-then-n-eq0 t c =
     let e : length c.args.values.now ≡ 0 = omega arith in
-    rw (e, layers-none c.args.layers c.args.radix.bits (drop c.args.at (bits_of c.args.part.now))) (refl, sym (take_all 0 c.args.values.now (omega arith)))
+    rw (e, layers-none c.args.layers c.args.radix.bits (drop c.args.at (bits_of c.args.part.bytes.now))) (refl, sym (take_all 0 c.args.values.now (omega arith)))
 
 pub returns-then-layers-eq0 : goal.returns-then-layers-eq0
 returns-then-layers-eq0 t c =
     let e : c.args.layers ≡ 0 = omega arith in
-    rw (e, layers-stopped c.args.radix.bits (length c.args.values.now) (drop c.args.at (bits_of c.args.part.now)) (omega arith)) refl
+    rw (e, layers-stopped c.args.radix.bits (length c.args.values.now) (drop c.args.at (bits_of c.args.part.bytes.now)) (omega arith)) refl
 
 pub returns-then-part-at : goal.returns-then-part-at
 returns-then-part-at t c =
-    let bs = drop c.args.at (bits_of c.args.part.now) in
+    let bs = drop c.args.at (bits_of c.args.part.bytes.now) in
     let e : c.args.layers ≡ suc (c.args.layers - 1) = omega arith in
     rw (e, layers-short (c.args.layers - 1) c.args.radix.bits (length c.args.values.now) bs (simp (length-drop, length-fixed) (omega arith))) refl
 
@@ -43,7 +43,7 @@ pub returns-in_err-decode_layers : goal.returns-in_err-decode_layers
 returns-in_err-decode_layers t c =
     let a = c.args in
     let r = c.count_ones-rests in
-    rw (layered_at a.layers a.radix.bits a.at r.result a.part.now a.values.now undecoded (omega arith) (omega arith) (omega arith) r.ensures.1 (says-none _ _ c.in_err-decode_layers.ensures)) c.from_residual.ensures
+    rw (layered_at a.layers a.radix.bits a.at r.result a.part.bytes.now a.values.now undecoded (omega arith) (omega arith) (omega arith) r.ensures.1 (says-none _ _ c.in_err-decode_layers.ensures)) c.from_residual.ensures
 
 pub returns-then-not-all_small : goal.returns-then-not-all_small
 returns-then-not-all_small t c =
@@ -52,7 +52,7 @@ returns-then-not-all_small t c =
     let later = c.decode_layers.new.values in
     let f = front r.result a.values.now later (omega arith) c.decode_layers.auto.values in
     let large = rw f.1 at (sym c.all_small.ensures ∙ c.if-not-all_small.true) in
-    rw (layered_at a.layers a.radix.bits a.at r.result a.part.now a.values.now (all later) (omega arith) (omega arith) (omega arith) r.ensures.1 (says-some _ later c.in_ok-decode_layers.ensures), large) refl
+    rw (layered_at a.layers a.radix.bits a.at r.result a.part.bytes.now a.values.now (all later) (omega arith) (omega arith) (omega arith) r.ensures.1 (says-some _ later c.in_ok-decode_layers.ensures), large) refl
 
 pub merge_by_width-requires-clause-rests_value : goal.merge_by_width-requires-clause-rests_value
 merge_by_width-requires-clause-rests_value t c =
@@ -74,5 +74,5 @@ returns t c =
     let later = c.decode_layers.new.values in
     let f = front r.result a.values.now later (omega arith) c.decode_layers.auto.values in
     let small = rw f.1 at (sym c.all_small.ensures ∙ c.if-not-all_small.false) in
-    rw (layered_at a.layers a.radix.bits a.at r.result a.part.now a.values.now (all later) (omega arith) (omega arith) (omega arith) r.ensures.1 (says-some _ later c.in_ok-decode_layers.ensures), small)
+    rw (layered_at a.layers a.radix.bits a.at r.result a.part.bytes.now a.values.now (all later) (omega arith) (omega arith) (omega arith) r.ensures.1 (says-some _ later c.in_ok-decode_layers.ensures), small)
     (refl, rw (f.0, f.1) at c.merge_by_width.ensures)

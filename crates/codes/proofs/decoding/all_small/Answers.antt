@@ -1,9 +1,10 @@
-use Rattle.std.proofs.Common.{◌≡◌, ℕ, ◌+◌, ◌-◌, ◌/◌, ◌%◌, ◌^◌, ◌<◌, ◌≤◌, ltb, eqb, ◌&&◌, get_or, take, refl, ◌∙◌, arith, pow_pos, pow_mono, take_all}
+use Rattle.std.proofs.Common.{◌≡◌, ℕ, ◌+◌, ◌-◌, ◌/◌, ◌%◌, ◌^◌, ◌<◌, ◌≤◌, ltb, eqb, ◌&&◌, get_or, take, refl, ◌∙◌, arith, pow_pos, pow_mono, take_all, bit_or}
+use Rattle.std.proofs.lemmas.Nat.{or_lt, and_le_l, and_le_r}
 use native.Mathlib.Nat.{div-eq_of_lt}
 use Rattle.std.proofs.lemmas.Bool.Decides.{nat_tests}
 use Rattle.std.proofs.lemmas.List.{take_more}
 use Rattle.std.proofs.lemmas.List.Recursion.{and_push}
-use lib.Bits.{bit_or, or_lt, or_add_and, and_le_l, and_le_r}
+use lib.Bits.{or_add_and}
 use Rattle.codes.specs.Decode.{from_one}
 use Rattle.codes.proofs.decoding.all_small.Goals as goal
 

@@ -28,7 +28,7 @@ merge_group-kept-requires-clause-group c =
     rw e (record {
       count = e;
       inside = omega arith;
-      whole = c.requires.whole.1;
+      whole = c.requires.whole;
       ones = rw (c.min-k.ensures, group.1) was.ones;
       small = λ q h. rw (was.unused q h, get_or-take c.args.rests c.args.values.now q 0 (omega arith)) (c.requires.rests_value.1 q (omega arith));
     })
@@ -42,7 +42,7 @@ loop-group-preserved c =
     let group = ends n (56 / c.args.radix.bits) c.loop-group.group (some c.args.radix.bits c.args.radix.range) c.loop-group-test.true (rw c.div_ceil-group.ensures at c.loop-group.auto.group) in
     let m = rw e at c.merge_group-kept.ensures (take c.args.rests c.args.values.now) (rw (c.min-k.ensures, group.1) was) in
     let here : min n from ≡ from = omega arith in
-    let s = sum-take-add from (min (56 / c.args.radix.bits) (n - from)) (continuations_at c.args.part.now c.args.at n) in
+    let s = sum-take-add from (min (56 / c.args.radix.bits) (n - from)) (continuations_at c.args.part.bytes.now c.args.at n) in
     (omega arith, omega (arith, m.ones, was.ones, rw group.1 at s), rw here m)
 
 pub returns : goal.returns
@@ -50,6 +50,6 @@ returns c =
     let n = length c.args.values.now in
     let e : length c.loop-group.values ≡ n = omega arith in
     let none : min n (c.loop-group.group * (56 / c.args.radix.bits)) ≡ 0 = let z : c.loop-group.group ≡ 0 = omega arith in rw z (omega arith) in
-    let count = length-continuations c.args.part.now c.args.at n (omega arith) in
-    merging-last c.args.radix.bits (continuations_at c.args.part.now c.args.at n) (chunks_at c.args.part.now c.args.at n) (take c.args.rests c.args.values.now) c.loop-group.values c.loop-group.kept
+    let count = length-continuations c.args.part.bytes.now c.args.at n (omega arith) in
+    merging-last c.args.radix.bits (continuations_at c.args.part.bytes.now c.args.at n) (chunks_at c.args.part.bytes.now c.args.at n) (take c.args.rests c.args.values.now) c.loop-group.values c.loop-group.kept
     (rw e count) (rw none at c.loop-group.invariant.2)

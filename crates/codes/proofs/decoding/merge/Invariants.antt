@@ -7,4 +7,4 @@ abbrev pub invariant-loop-group : goal.invariant-loop-group
 invariant-loop-group l =
     let b = l.radix.bits in
     (length l.values ≡ l.n) × (l.kept ≤ l.rests)
-    × Merging b (continuations_at l.part l.at l.n) (chunks_at l.part l.at l.n) (take l.rests l.initial.values) l.values (min l.n (l.group * l.room)) l.kept
+    × Merging b (continuations_at l.part.bytes.now l.at l.n) (chunks_at l.part.bytes.now l.at l.n) (take l.rests l.initial.values) l.values (min l.n (l.group * l.room)) l.kept

@@ -7,5 +7,5 @@ use Rattle.codes.proofs.decoding.merge_group.Given as goal
 abbrev pub invariant-loop-j : goal.invariant-loop-j
 invariant-loop-j l =
     let n = length l.initial.values in
-    Left l.b l.part l.values l.at n l.from l.j l.kept l.mores l.chunks
-    × Merges l.b l.part l.at n l.initial.values (l.from + l.k) l.initial.kept l.values (l.from + l.j) l.kept
+    Left l.b l.part.bytes.now l.values l.at n l.from l.j l.kept l.mores l.chunks
+    × Merges l.b l.part.bytes.now l.at n l.initial.values (l.from + l.k) l.initial.kept l.values (l.from + l.j) l.kept

@@ -1,5 +1,5 @@
 -- The tests are those of the definition, by bytes; the value is read where a fetch of a fixed code reads it.
-use Rattle.std.proofs.Common.{ℕ, ◌+◌, ◌*◌, ◌≤◌, length, sym, ◌∙◌, arith, le-ltb, lt-ltb}
+use Rattle.std.proofs.Common.{ℕ, length, Some, ap, arith, le-ltb, lt-ltb}
 use Rattle.codes.specs.Bits.{bits_of}
 use Rattle.codes.specs.Fetch.{short_at}
 use Rattle.codes.proofs.Bits.{length-fixed}
@@ -7,36 +7,24 @@ use Rattle.codes.proofs.fetching.fetch_short.Goals as goal
 
 pub returns-then-w-gt25 : goal.returns-then-w-gt25
 unfolding short_at
-returns-then-w-gt25 c = rw (← c.kind_of-kind.ensures, c.in-Fixed.is, lt-ltb 25 c.in-Fixed.w (omega arith))
+returns-then-w-gt25 c = rw (← c.in-Fixed.ensures, lt-ltb 25 c.in-Fixed.w (omega arith))
 
 pub returns-then-part-lt4 : goal.returns-then-part-lt4
 unfolding short_at
 returns-then-part-lt4 c =
-    let part = c.args.part.now in
-    rw (← c.kind_of-kind.ensures, c.in-Fixed.is, le-ltb 25 c.in-Fixed.w (omega arith), lt-ltb (length (bits_of part)) 32 (rw (length-fixed 8 part) (omega arith)))
-
-pub overflow_mul-index : goal.overflow_mul-index
-overflow_mul-index c =
-    let width : ℕ = c.in-Fixed.w in
-    let inside : (c.args.index + 1) * width ≤ length c.args.part.now * 8 = rw (sym c.kind_of-kind.ensures ∙ c.in-Fixed.is) at c.requires.2 in
-    omega (arith, inside)
-
-pub read_short-requires : goal.read_short-requires
-read_short-requires c =
-    let width : ℕ = c.in-Fixed.w in
-    let inside : (c.args.index + 1) * width ≤ length c.args.part.now * 8 = rw (sym c.kind_of-kind.ensures ∙ c.in-Fixed.is) at c.requires.2 in
-    omega (arith, inside)
+    let part = c.args.part.bytes.now in
+    rw (← c.in-Fixed.ensures, le-ltb 25 c.in-Fixed.w (omega arith), lt-ltb (length (bits_of part)) 32 (rw (length-fixed 8 part) (omega arith)))
 
 pub returns-else-part-lt4 : goal.returns-else-part-lt4
 unfolding short_at
 returns-else-part-lt4 c =
     let width : ℕ = c.in-Fixed.w in
-    let part = c.args.part.now in rw (← c.kind_of-kind.ensures, c.in-Fixed.is, le-ltb 25 (width) (omega arith), le-ltb (length (bits_of part)) 32 (rw (length-fixed 8 part) (omega arith))) c.read_short.ensures
+    let part = c.args.part.bytes.now in rw (← c.in-Fixed.ensures, le-ltb 25 (width) (omega arith), le-ltb (length (bits_of part)) 32 (rw (length-fixed 8 part) (omega arith))) (ap Some c.read_short.ensures)
 
 pub returns-in-Chunked : goal.returns-in-Chunked
 unfolding short_at
-returns-in-Chunked c = rw (← c.kind_of-kind.ensures, c.in-Chunked.is)
+returns-in-Chunked c = rw (← c.in-Chunked.ensures)
 
 pub returns-in-Refused : goal.returns-in-Refused
 unfolding short_at
-returns-in-Refused c = rw (← c.kind_of-kind.ensures, c.in-Refused.is)
+returns-in-Refused c = rw (← c.in-Refused.ensures)

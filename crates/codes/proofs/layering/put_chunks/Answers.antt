@@ -1,4 +1,4 @@
-use Rattle.std.proofs.Common.{◌≡◌, ℕ, ◌+◌, ◌*◌, ◌/◌, ◌≤◌, List, ◌++◌, length, take, drop, refl, ◌∙◌, le_trans, mul-le-mul_right, add-mul, le-div_iff_mul-le, div-mul-le_self, arith, length-drop, take_all}
+use Rattle.std.proofs.Common.{◌≡◌, ℕ, ◌+◌, ◌*◌, ◌/◌, ◌≤◌, List, ◌++◌, length, take, drop, refl, ◌∙◌, le_trans, mul-le-mul_right, add-mul, div-mul-le_self, arith, length-drop, take_all}
 use Rattle.codes.specs.declared.writing.Writer.{Writer}
 use Rattle.codes.specs.Bits.{bits, number, fixed}
 use Rattle.codes.specs.Codes.{rest}
@@ -12,9 +12,6 @@ use Rattle.codes.proofs.layering.put_chunks.Goals as goal
 -- chunks that go into 32 bits
 fits : (b k : ℕ) → k ≤ 32 / b → k * b ≤ 32
 fits b k t = le_trans (mul-le-mul_right b t) (div-mul-le_self 32 b)
-
-some_fit : (b : ℕ) → 1 ≤ b → b ≤ 8 → 1 ≤ 32 / b
-some_fit b l h = (le-div_iff_mul-le {k = b} {x = 1} {y = 32} l).1 (omega arith)
 
 pub loop-i-init : goal.loop-i-init
 unfolding fixed rest
@@ -34,11 +31,6 @@ put-writer-requires c =
       w_bound = (fits b k t, rw c.joined_chunks-group.ensures.0 (number_lt (fixed b vs) (bits-fixed b vs) n));
       w_in_bounds = omega (arith, length-fixed-take b c.args.values.now c.loop-i.i (omega arith));
     }
-
-pub loop-i-smaller : goal.loop-i-smaller
-loop-i-smaller c =
-    let some = some_fit c.args.radix.bits (omega arith) (omega arith) in
-    omega arith
 
 -- what a turn adds: the chunks of k values from value i on, which are as they were
 module _ (us vs : List ℕ) (b i k : ℕ) (l : i + k ≤ length us) (h : drop i vs ≡ drop i us) where

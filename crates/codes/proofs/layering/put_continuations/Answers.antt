@@ -1,6 +1,5 @@
 use Rattle.std.proofs.Common.{◌++◌, map, sym, ap, ◌∙◌, append_assoc, arith}
-use Rattle.std.proofs.lemmas.List.{length-map}
-use mathlib.Core.List.{map-append}
+use Rattle.std.proofs.lemmas.List.{length-map, map-append}
 use Rattle.codes.specs.Codes.{continuation}
 use Rattle.codes.proofs.Bits.{number_lt, bits-number}
 use Rattle.codes.proofs.BitsWritten.{wrote-both}

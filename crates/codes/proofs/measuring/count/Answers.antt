@@ -5,9 +5,6 @@ use Rattle.codes.proofs.Tallies.{counted-more}
 use Rattle.codes.proofs.Widths.{width-zeros}
 use Rattle.codes.proofs.measuring.count.Goals as goal
 
-pub overflow_add-counts : goal.overflow_add-counts
-overflow_add-counts c = omega (arith, c.requires (count_leading_zeros 32 c.args.v))
-
 pub returns : goal.returns
 returns c =
     let z = count_leading_zeros 32 c.args.v in

@@ -1,8 +1,6 @@
 -- After k turns the lines of k positions from `first` on stand at the front. Where there may be no room for one more, k is not 0, since the
 -- text is longer than a line.
-use mathlib.Core.Path.{◌≡◌}
-use Prim.Native.Nat.{◌+◌, ◌-◌, ◌≤◌}
-use lib.ListN.{length}
+use Rattle.std.proofs.Common.{◌≡◌, ◌≤◌, length}
 use Rattle.codes.specs.Lists.{replaced}
 use Rattle.strip.specs.Calls.{plain_list}
 use Rattle.pinlist.specs.Texts.{lines_from}
@@ -10,9 +8,5 @@ use Rattle.pinlist.proofs.lines.put_times.Given as goal
 
 abbrev pub invariant-loop-k : goal.invariant-loop-k
 invariant-loop-k l =
-    (l.first + l.k ≤ l.n) × (length l.text ≡ length l.initial.text) × (l.end ≤ length l.text)
-    × (l.end ≡ length (lines_from (plain_list l.s) l.first l.k))
+    (l.end ≤ length l.text) × (l.end ≡ length (lines_from (plain_list l.s) l.first l.k))
     × (l.text ≡ replaced l.initial.text 0 (lines_from (plain_list l.s) l.first l.k))
-
-abbrev pub decreases-loop-k : goal.decreases-loop-k
-decreases-loop-k l = l.n - (l.first + l.k)

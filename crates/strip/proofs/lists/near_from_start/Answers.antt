@@ -6,9 +6,6 @@ use borrow.Author.Tests.{ltb-true, ltb-false}
 use Rattle.strip.proofs.Gaps.{gap-here, gap-later, gap-end}
 use Rattle.strip.proofs.lists.near_from_start.Goals as goal
 
-pub loop-i-init : goal.loop-i-init
-loop-i-init c = (omega arith, omega arith, omega arith)
-
 pub returns-then-is_near : goal.returns-then-is_near
 returns-then-is_near c =
     let xs = c.args.times.now in
@@ -21,11 +18,8 @@ loop-i-preserved c =
     let xs = c.args.times.now in
     let e : suc (c.loop-i.i - 1) ≡ c.loop-i.i = omega arith in
     let f : c.loop-i.i + 1 - 1 ≡ c.loop-i.i = omega arith in
-    let h : get_or xs (c.loop-i.i - 1) 0 + c.args.r ≤ get_or xs c.loop-i.i 0 = ltb-false _ _ (sym c.is_near.ensures ∙ c.if-is_near.false) in (
-      omega arith,
-      omega arith,
-      rw f (omega (arith, rw e at (gap-later c.args.r xs (c.loop-i.i - 1) (rw e (omega arith)) (rw e h)))),
-    )
+    let h : get_or xs (c.loop-i.i - 1) 0 + c.args.r ≤ get_or xs c.loop-i.i 0 = ltb-false _ _ (sym c.is_near.ensures ∙ c.if-is_near.false) in
+    (omega arith, rw f (omega (arith, rw e at (gap-later c.args.r xs (c.loop-i.i - 1) (rw e (omega arith)) (rw e h)))))
 
 pub returns : goal.returns
 returns c = omega (arith, gap-end c.args.r c.args.times.now (c.loop-i.i - 1) (omega arith))

@@ -18,16 +18,13 @@ loop-d-init c =
     let low = height_fits n (omega arith) in
     let blank = c.no_levels-levels.ensures in
     let start : get_or c.no_levels-levels.result.ends 0 0 ≡ parts_start n = rw blank in (
-      omega arith,
+      c.height-d-end.ensures,
       omega arith,
       omega (arith, start),
       start ∙ sym (end-start (parts_start n) (length_for values)),
       blank ∙ entered-none n (code_for values) (length_for values),
       λ j. (c.type_inv.values j).fits,
     )
-
-pub choose-choice-requires : goal.choose-choice-requires
-choose-choice-requires c = let values = c.args.values.now in rw c.level_values.ensures (omega (arith, level-short values c.loop-d.d))
 
 pub overflow_add-end : goal.overflow_add-end
 overflow_add-end c =
@@ -45,7 +42,7 @@ loop-d-preserved c =
     let e : c.loop-d.end + (c.choose-choice.result.size + 7) / 8 ≡ end_after (parts_start n) (length_for values) (suc d) =
     rw (ch, c.loop-d.invariant.3, ← (length-chosen values c.loop-d.invariant.5 d)) (sym (end-next (parts_start n) (length_for values) d)) in (
       c.loop-d.invariant.0,
-      omega arith,
+      c.loop-d.invariant.1,
       omega (arith, ap (λ (x : Choice). x.size) ch, size_small values c.loop-d.invariant.5 d, level-short values d),
       rw next e,
       rw c.loop-d.invariant.4
@@ -56,5 +53,5 @@ loop-d-preserved c =
 pub returns : goal.returns
 returns c =
     let values = c.args.values.now in
-    c.loop-d.invariant.4 ∙ ap (entered (length values) (code_for values) (length_for values)) (omega (arith, c.height-h.ensures))
+    c.loop-d.invariant.4 ∙ ap (entered (length values) (code_for values) (length_for values)) (omega (arith, c.height-d-end.ensures))
     ∙ entered_all (length values) (code_for values) (length_for values)

@@ -12,4 +12,4 @@ returns-then-out-n c = rw (lt-ltb (length c.args.out.now) (length c.args.times.n
 
 pub returns : goal.returns
 unfolding verdict test
-returns c = rw (le-ltb (length c.args.out.now) (length c.args.times.now) (omega arith)) (record { result_value = refl; out_after = c.copy_values.ensures })
+returns c = rw (le-ltb (length c.args.out.now) (length c.args.times.now) (omega arith)) (record { result_value = refl; out_after = rw c.copy_from_slice.ensures.after refl })

@@ -1,9 +1,9 @@
 use native.Mathlib.Omega.{arith}
-use mathlib.Core.Path.{◌≡◌, refl, sym, ap, ◌∙◌}
+use mathlib.Core.Path.{◌≡◌, sym, ap, ◌∙◌}
 use mathlib.Core.List.{List, ◌++◌}
 use Prim.Native.Nat.{ℕ, ◌-◌}
 use lib.ListN.{length, drop, get_or}
-use borrow.Rule.Slice.PartMut.{mid_of, put_mid, same_len_mid}
+use borrow.Rule.Slice.PartMut.{mid_of, put_mid}
 use Rattle.codes.specs.Lists.{replaced}
 use Rattle.codes.specs.Codes.{part}
 use Rattle.codes.proofs.Promises.{list-laws}
@@ -20,13 +20,10 @@ pub loop-d-init : goal.loop-d-init
 unfolding joined
 loop-d-init c =
     let p = c.requires.values_len_bound in
-    let h = c.height-h.ensures ∙ ap height (plan-pins c.args.values.now c.args.levels p.2) in (
-      omega arith,
+    let h = c.height-d-end.ensures ∙ ap height (plan-pins c.args.values.now c.args.levels p.2) in (
       rw h (height_fits (length c.args.values.now) p.0),
       h,
       λ j. (c.type_inv.values j).fits,
-      refl,
-      refl,
       sym (list-laws.replaced_none c.args.out.now (parts_start (length c.args.values.now))),
     )
 
@@ -48,7 +45,7 @@ encode-requires c =
     let k = plan-spot values p.0 c.args.levels p.2 d (omega arith) in
     let e = c.level_values.ensures in
     record {
-      holds = rw (k.code_is, e) (level_holds values c.loop-d.invariant.3 d);
+      holds = rw (k.code_is, e) (level_holds values c.loop-d.invariant.2 d);
       values_in_bounds = (
         rw (k.part-is _ e, length-lent c.loop-d.out (get_or c.args.levels.ends d 0)) (omega (arith, k.room)),
         rw e (omega (arith, stored-levels.half values d)),
@@ -71,18 +68,10 @@ loop-d-preserved c =
     let now = ap (put_mid at (length c.loop-d.out - at) c.loop-d.out) last ∙ lent_written c.loop-d.out at (part_for values d) (omega (arith, k.room)) in
     let start = parts_start (length values) in
     let before = joined (part_for values) d in (
-      omega arith,
+      c.loop-d.invariant.0,
       c.loop-d.invariant.1,
       c.loop-d.invariant.2,
-      c.loop-d.invariant.3,
-      same_len_mid at (length c.loop-d.out - at) c.loop-d.out c.encode.new.out c.encode.auto.out ∙ c.loop-d.invariant.4,
-      omega arith,
-      now ∙ ap (λ (o : List ℕ). replaced o at (part_for values d)) c.loop-d.invariant.6
+      now ∙ ap (λ (o : List ℕ). replaced o at (part_for values d)) c.loop-d.invariant.3
           ∙ list-laws.replaced_more c.args.out.now start at before (part_for values d) (sym k.starts) (omega (arith, k.room))
           ∙ ap (replaced c.args.out.now start) (sym (joined-next (part_for values) d)),
     )
-
-pub returns : goal.returns
-returns c =
-    let all : c.loop-d.d ≡ height (length c.args.values.now) = omega arith in
-    rw (plan-pins c.args.values.now c.args.levels c.requires.values_len_bound.2) (rw all at c.loop-d.invariant.6)

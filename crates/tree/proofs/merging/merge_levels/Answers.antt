@@ -1,56 +1,32 @@
-use native.Mathlib.Omega.{arith}
-use mathlib.Core.Path.{refl, ◌∙◌}
-use Prim.Native.Nat.{ℕ, ◌+◌, ◌-◌, ◌*◌, ◌≤◌, ◌<◌}
-use lib.ListN.{length, get_or, set, length-set}
-use lib.Seq.{get_or-set_same}
-use Rattle.tree.proofs.LevelMerges.{span-length, grown-root, first-odd, grown-next, grown-all, merged-none}
+-- The root's time is what it stores; the levels below it have their lengths and what each merge promises.
+use Rattle.std.proofs.Common.{rules, ℕ, ◌+◌, ◌-◌, ◌≤◌, length, get_or, set, length-set, get_or-set_same, ◌^◌, arith}
+use Rattle.tree.specs.Levels.{level_values}
+use Rattle.tree.proofs.Heights.{height-le}
+use Rattle.tree.proofs.LevelMerges.{grown-root, level-sizes, grown-next, grown-all}
 use Rattle.tree.proofs.merging.merge_levels.Goals as goal
 
-less : (n f : ℕ) → 2 ≤ f → f ≤ n → n + 1 - 2 * f < n + 1 - f
-less n f a b = omega arith
+pub loop-depth-init : goal.loop-depth-init
+loop-depth-init c =
+    let values = c.args.values.now in
+    let x = get_or values 0 0 in
+    let some : 1 ≤ length values = omega arith in
+    grown-root values (set c.args.times.now 0 x) some (get_or-set_same c.args.times.now 0 x 0 (omega arith)) (c.type_inv.values 0).fits
 
-pub returns-then-n-eq0 : goal.returns-then-n-eq0
-returns-then-n-eq0 c = λ e. merged-none c.args.values.now c.args.times.now (omega arith)
-
-pub loop-first-init : goal.loop-first-init
-loop-first-init c =
-    let x = get_or c.args.values.now 0 0 in
-    let some : 1 ≤ length c.args.values.now = omega arith in
-    let room : 1 ≤ length c.args.times.now = omega arith in (
-      refl,
-      some,
-      omega arith,
-      omega arith,
-      rw length-set (omega arith),
-      grown-root c.args.values.now (set c.args.times.now 0 x) some (get_or-set_same c.args.times.now 0 x 0 room) (c.type_inv.values 0).fits,
-    )
+pub power_of_two-above-requires : goal.power_of_two-above-requires
+power_of_two-above-requires c = omega (arith, height-le (length c.args.values.now) 16 (omega arith))
 
 pub merge_level-requires : goal.merge_level-requires
 merge_level-requires c =
     let values = c.args.values.now in
-    let n : c.least-last.result ≤ length values = omega arith in
-    rw (span-length c.loop-first.first c.least-last.result values n)
-    (omega arith, omega arith, omega arith, first-odd _ _ c.loop-first.first c.loop-first.times c.loop-first.invariant.5)
+    let d = c.loop-depth.depth in
+    let sizes = level-sizes values d (omega arith) (omega arith) in
+    let room : 2 ^ d - 1 + length (level_values values d) ≤ length c.loop-depth.times = omega (arith, sizes, c.loop-depth.invariant.kept, length-set {A = ℕ}) in
+    rw (c.level_values.ensures, c.power_of_two-above.ensures) (sizes.0, sizes.1, room, sizes.3)
 
-pub shape_of-times-then-not-merge_level : goal.shape_of-times-then-not-merge_level
-shape_of-times-then-not-merge_level c = c.merge_level.auto.times ∙ c.loop-first.invariant.5.kept ∙ simp length-set
-
-pub loop-first-smaller : goal.loop-first-smaller
-loop-first-smaller c = less (length c.args.values.now) c.loop-first.first (omega arith) (omega arith)
-
-pub loop-first-preserved : goal.loop-first-preserved
-loop-first-preserved c = (
-  refl,
-  c.loop-first.invariant.1,
-  omega arith,
-  c.loop-first.invariant.3,
-  rw c.merge_level.auto.times c.loop-first.invariant.4,
-  grown-next _ _ c.loop-first.first c.loop-first.times c.loop-first.invariant.5 _ c.merge_level.new.times c.least-last.result (omega arith) c.least-last.ensures
-      refl (c.merge_level.ensures c.if-not-merge_level.false),
-)
-
-pub shape_of-times : goal.shape_of-times
-shape_of-times c = c.loop-first.invariant.5.kept ∙ simp length-set
+pub loop-depth-preserved : goal.loop-depth-preserved
+loop-depth-preserved c =
+    let w = rw (c.level_values.ensures, c.power_of_two-above.ensures) at (c.merge_level.ensures (search rules)) in
+    grown-next c.args.values.now c.loop-depth.depth (omega arith) (omega arith) _ c.loop-depth.times c.merge_level.new.times c.loop-depth.invariant w
 
 pub returns : goal.returns
-returns c = λ e. grown-all _ _ c.loop-first.first c.loop-first.times c.loop-first.invariant.5 (omega arith)
+returns c = λ e. grown-all c.args.values.now _ c.loop-depth.depth c.loop-depth.times c.loop-depth.invariant (omega arith)

@@ -1,11 +1,8 @@
 -- The number of bits up to the highest one bit is the only number that bounds n as the height does.
-use native.Mathlib.Omega.{arith}
-use lib.Count.{leading_le, leading_length}
+use Rattle.std.proofs.Common.{arith}
+use lib.Count.{leading_length}
 use Rattle.tree.proofs.Heights.{height-unique}
 use Rattle.tree.proofs.shape.height.Goals as goal
-
-pub overflow_sub-result : goal.overflow_sub-result
-overflow_sub-result c = leading_le 64 c.args.n
 
 pub returns : goal.returns
 returns c =

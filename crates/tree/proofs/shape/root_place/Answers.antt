@@ -1,11 +1,7 @@
 -- Half of the last level's greatest count decides between the two cases of the definition.
-use native.Mathlib.Omega.{arith}
-use lib.Pow.{pow_mono}
+use Rattle.std.proofs.Common.{arith, pow_mono, ◌≡◌, sym, ap, ◌∙◌, ℕ, ◌-◌, ◌*◌, ◌^◌, ◌≤◌, lt-ltb, le-ltb}
 use Rattle.tree.proofs.Heights.{Half, half_of, height-le, place-small}
 use Rattle.tree.specs.Shape.{height}
-use mathlib.Core.Path.{◌≡◌, sym, ap, ◌∙◌}
-use Prim.Native.Nat.{ℕ, ◌-◌, ◌*◌, ◌^◌, ◌≤◌}
-use borrow.Author.Tests.{lt-ltb, le-ltb}
 use Rattle.tree.proofs.shape.root_place.Goals as goal
 
 pub returns-then-n-lt2 : goal.returns-then-n-lt2

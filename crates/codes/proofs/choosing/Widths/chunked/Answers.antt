@@ -1,4 +1,4 @@
-use Rattle.std.proofs.Common.{◌≡◌, ℕ, ◌+◌, ◌*◌, ◌<◌, ◌≤◌, List, length, get_or, sym, mul-le-mul_left, arith}
+use Rattle.std.proofs.Common.{◌≡◌, ℕ, ◌+◌, ◌*◌, ◌<◌, ◌≤◌, List, length, get_or, sym, arith}
 use Rattle.codes.specs.Codes.{rest, chunked}
 use Rattle.codes.specs.Measure.{Measured}
 use Rattle.codes.proofs.Best.{size-chunked}
@@ -23,12 +23,6 @@ loop-s-preserved c = (
   omega (arith, c.args.self.now.parts c.loop-s.s),
   λ vs h e. layer c.args.self.now.over vs c.args.b c.loop-s.s c.loop-s.chunks (omega arith) (omega arith) (omega arith) h (c.loop-s.invariant.3 vs h e),
 )
-
-pub overflow_mul-result : goal.overflow_mul-result
-overflow_mul-result c = elim c.loop-s-test.branch [
-  | else-loop-s-test w ↦ absurd (omega arith)
-  | then-loop-s-test+else-b-s w ↦ omega (arith, c.args.self.now.parts c.loop-s.s, mul-le-mul_left c.loop-s-test.chunks c.requires.1)
-]
 
 pub returns : goal.returns
 returns c = elim c.loop-s-test.branch [

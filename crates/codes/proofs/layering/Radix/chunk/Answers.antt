@@ -1,5 +1,5 @@
 -- The power is 2^b, and one less is the mask of the b lowest bits, which leaves the remainder.
-use lib.Bits.{and_mask}
+use Rattle.std.proofs.lemmas.Nat.{and_mask}
 use Rattle.codes.proofs.layering.Radix.chunk.Goals as goal
 
 pub returns : goal.returns

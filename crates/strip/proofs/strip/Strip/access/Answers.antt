@@ -1,19 +1,13 @@
--- Opening decides: where it refuses, the access does; else the levels fit the strip, as `access_open` asks, and it gives the answer.
+-- Opening decides: where it refuses, so does the call; else the call on the open strip has the answer.
+use mathlib.Core.Path.{◌∙◌}
 use Rattle.strip.specs.Calls.{access_of}
-use Rattle.strip.proofs.Openings.{opening-is}
+use Rattle.strip.proofs.Openings.{opening-refused, opening-given}
 use Rattle.strip.proofs.strip.Strip.access.Goals as goal
 
-pub access_open-requires : goal.access_open-requires
-access_open-requires c = rw c.in-Open.is at c.opening_of-opening.ensures.fits_open
-
-pub returns-in-Open : goal.returns-in-Open
+pub returns-in_err-strip : goal.returns-in_err-strip
 unfolding access_of
-returns-in-Open c =
-    let o = c.opening_of-opening in
-    rw (opening-is c.args.s.now o.result _ o.ensures.result_value c.in-Open.is) c.access_open.ensures
+returns-in_err-strip c = opening-refused _ _ _ c.opening_of.ensures.result_value _ _ c.in_err-strip.was c.from_residual.ensures.1
 
-pub returns-in-Refused : goal.returns-in-Refused
+pub returns : goal.returns
 unfolding access_of
-returns-in-Refused c =
-    let o = c.opening_of-opening in
-    rw (opening-is c.args.s.now o.result _ o.ensures.result_value c.in-Refused.is)
+returns c = rw c.in_ok-strip.ensures.bytes_value at c.access.ensures ∙ opening-given _ _ _ c.opening_of.ensures.result_value _ c.in_ok-strip.was

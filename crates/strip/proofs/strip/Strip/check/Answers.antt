@@ -1,21 +1,13 @@
--- Check's answer after the opening, which is never none.
+-- Opening decides: where it refuses, so does the call; else the call on the open strip has the answer.
+use mathlib.Core.Path.{◌∙◌}
 use Rattle.strip.specs.Calls.{check_of}
-use Rattle.strip.proofs.Openings.{opening-is}
+use Rattle.strip.proofs.Openings.{opening-refused, opening-given}
 use Rattle.strip.proofs.strip.Strip.check.Goals as goal
 
-pub read_open-requires : goal.read_open-requires
-read_open-requires c =
-    let o = c.opening_of-opening in
-    (rw c.in-Open.is at o.ensures.fits_open, opening-is c.args.s.now o.result _ o.ensures.result_value c.in-Open.is)
-
-pub returns-in-Open : goal.returns-in-Open
+pub returns-in_err-strip : goal.returns-in_err-strip
 unfolding check_of
-returns-in-Open c =
-    let o = c.opening_of-opening in
-    rw (opening-is c.args.s.now o.result _ o.ensures.result_value c.in-Open.is) (c.checked_of.ensures _ c.read_open.ensures.result_value)
+returns-in_err-strip c = opening-refused _ _ _ c.opening_of.ensures.result_value _ _ c.in_err-strip.was c.from_residual.ensures.1
 
-pub returns-in-Refused : goal.returns-in-Refused
+pub returns : goal.returns
 unfolding check_of
-returns-in-Refused c =
-    let o = c.opening_of-opening in
-    rw (opening-is c.args.s.now o.result _ o.ensures.result_value c.in-Refused.is)
+returns c = rw c.in_ok-strip.ensures.bytes_value at c.check.ensures ∙ opening-given _ _ _ c.opening_of.ensures.result_value _ c.in_ok-strip.was

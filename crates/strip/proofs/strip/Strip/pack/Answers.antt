@@ -1,4 +1,4 @@
--- 1, 2 and 3 are tested in turn; a list is ordered just where its first lower position is its length. `pack_list` has 4 and the image.
+-- 1, 2 and 3 are tested in turn; a list is ordered just where its first lower position is its length. `Tune::pack` has 4 and the image.
 use native.Mathlib.Omega.{arith}
 use mathlib.Core.Path.{refl}
 use lib.ListN.{length}
@@ -31,10 +31,10 @@ returns-then-lower-n c =
     rw (ne_eqb (length xs) 0 (λ e. omega arith), le-ltb max_pins (length xs) (omega arith), falls, c.first_lower-lower.ensures)
     (record { result_value = refl; out_after = refl })
 
-pub pack_list-requires : goal.pack_list-requires
-pack_list-requires c =
+pub invariant_of-pack : goal.invariant_of-pack
+invariant_of-pack c =
     let xs = c.args.times.now in
-    (rw (is-ordered xs (omega (arith, c.first_lower-lower.ensures))) tt, omega arith)
+    record { in_order = rw (is-ordered xs (omega (arith, c.first_lower-lower.ensures))) tt; few = omega arith }
 
 pub returns : goal.returns
 unfolding pack_of pack_output verdict test
@@ -42,4 +42,4 @@ returns c =
     let xs = c.args.times.now in
     let in_order = is-ordered xs (omega (arith, c.first_lower-lower.ensures)) in
     rw (ne_eqb (length xs) 0 (λ e. omega arith), le-ltb max_pins (length xs) (omega arith), in_order)
-    c.pack_list.ensures
+    c.pack.ensures

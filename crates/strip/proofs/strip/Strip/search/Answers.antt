@@ -1,19 +1,13 @@
--- Opening decides: where it refuses, the search does; else the levels fit the strip, as `search_open` asks, and it gives the answer.
+-- Opening decides: where it refuses, so does the call; else the call on the open strip has the answer.
+use mathlib.Core.Path.{◌∙◌}
 use Rattle.strip.specs.Calls.{search_of}
-use Rattle.strip.proofs.Openings.{opening-is}
+use Rattle.strip.proofs.Openings.{opening-refused, opening-given}
 use Rattle.strip.proofs.strip.Strip.search.Goals as goal
 
-pub search_open-requires : goal.search_open-requires
-search_open-requires c = rw c.in-Open.is at c.opening_of-opening.ensures.fits_open
-
-pub returns-in-Open : goal.returns-in-Open
+pub returns-in_err-strip : goal.returns-in_err-strip
 unfolding search_of
-returns-in-Open c =
-    let o = c.opening_of-opening in
-    rw (opening-is c.args.s.now o.result _ o.ensures.result_value c.in-Open.is) c.search_open.ensures
+returns-in_err-strip c = opening-refused _ _ _ c.opening_of.ensures.result_value _ _ c.in_err-strip.was c.from_residual.ensures.1
 
-pub returns-in-Refused : goal.returns-in-Refused
+pub returns : goal.returns
 unfolding search_of
-returns-in-Refused c =
-    let o = c.opening_of-opening in
-    rw (opening-is c.args.s.now o.result _ o.ensures.result_value c.in-Refused.is)
+returns c = rw c.in_ok-strip.ensures.bytes_value at c.search.ensures ∙ opening-given _ _ _ c.opening_of.ensures.result_value _ c.in_ok-strip.was

@@ -1,21 +1,16 @@
--- Opening decides: where it refuses, nothing is written; else the levels fit the strip, as `sweep_open` asks, and it answers and writes.
+-- Opening decides: where it refuses, nothing is written; else the sweep of the open strip answers and writes.
 use mathlib.Core.Path.{refl}
 use Rattle.strip.specs.Calls.{sweep_of, sweep_output}
+use Rattle.strip.proofs.Exits.{handed-up}
 use Rattle.strip.proofs.Openings.{opening-is}
 use Rattle.strip.proofs.strip.Strip.sweep.Goals as goal
 
-pub sweep_open-requires : goal.sweep_open-requires
-sweep_open-requires c = rw c.in-Open.is at c.opening_of-opening.ensures.fits_open
-
-pub returns-in-Open : goal.returns-in-Open
+pub returns-in_err-strip : goal.returns-in_err-strip
 unfolding sweep_of sweep_output
-returns-in-Open c =
-    let o = c.opening_of-opening in
-    rw (opening-is c.args.s.now o.result _ o.ensures.result_value c.in-Open.is) c.sweep_open.ensures
+returns-in_err-strip c =
+    rw (opening-is c.args.s.now _ c.opening_of.ensures.result_value c.in_err-strip.was)
+    (record { result_value = handed-up _ _ c.from_residual.ensures.1; answers_after = refl })
 
-pub returns-in-Refused : goal.returns-in-Refused
+pub returns : goal.returns
 unfolding sweep_of sweep_output
-returns-in-Refused c =
-    let o = c.opening_of-opening in
-    rw (opening-is c.args.s.now o.result _ o.ensures.result_value c.in-Refused.is)
-    (record { result_value = refl; answers_after = refl })
+returns c = rw (opening-is c.args.s.now _ c.opening_of.ensures.result_value c.in_ok-strip.was) (rw c.in_ok-strip.ensures.bytes_value at c.sweep.ensures)

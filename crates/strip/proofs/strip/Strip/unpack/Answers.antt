@@ -1,24 +1,16 @@
--- Unpack's answer and the output after the opening; a strip that does not open leaves the output.
+-- Opening decides: where it refuses, nothing is written; else unpack of the open strip answers and writes.
 use mathlib.Core.Path.{refl}
 use Rattle.strip.specs.Calls.{check_of, plain_list, unpack_of, unpack_output}
+use Rattle.strip.proofs.Exits.{handed-up}
 use Rattle.strip.proofs.Openings.{opening-is}
 use Rattle.strip.proofs.strip.Strip.unpack.Goals as goal
 
-pub read_open-requires : goal.read_open-requires
-read_open-requires c =
-    let o = c.opening_of-opening in
-    (rw c.in-Open.is at o.ensures.fits_open, opening-is c.args.s.now o.result _ o.ensures.result_value c.in-Open.is)
+pub returns-in_err-strip : goal.returns-in_err-strip
+unfolding check_of plain_list unpack_of unpack_output
+returns-in_err-strip c =
+    rw (opening-is c.args.s.now _ c.opening_of.ensures.result_value c.in_err-strip.was)
+    (record { result_value = handed-up _ _ c.from_residual.ensures.1; out_after = refl })
 
-pub returns-in-Open : goal.returns-in-Open
-unfolding unpack_of unpack_output check_of plain_list
-returns-in-Open c =
-    let o = c.opening_of-opening in
-    rw (opening-is c.args.s.now o.result _ o.ensures.result_value c.in-Open.is)
-    (record { result_value = c.checked_of.ensures _ c.read_open.ensures.result_value; out_after = c.read_open.ensures.out_after })
-
-pub returns-in-Refused : goal.returns-in-Refused
-unfolding unpack_of unpack_output check_of plain_list
-returns-in-Refused c =
-    let o = c.opening_of-opening in
-    rw (opening-is c.args.s.now o.result _ o.ensures.result_value c.in-Refused.is)
-    (record { result_value = refl; out_after = refl })
+pub returns : goal.returns
+unfolding check_of plain_list unpack_of unpack_output
+returns c = rw (opening-is c.args.s.now _ c.opening_of.ensures.result_value c.in_ok-strip.was) (rw c.in_ok-strip.ensures.bytes_value at c.unpack.ensures)

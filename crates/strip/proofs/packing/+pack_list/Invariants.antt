@@ -1,7 +1,0 @@
--- The measure is what arrays for the longest list have more than those now taken: it falls to 0 where a list has more pins than these.
-use Prim.Native.Nat.{◌-◌}
-use Rattle.strip.specs.Layout.{max_pins}
-use Rattle.strip.proofs.packing.+pack_list.Given as goal
-
-abbrev pub decreases-pack_list : goal.decreases-pack_list
-decreases-pack_list l = max_pins - l.most

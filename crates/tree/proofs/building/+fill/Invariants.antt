@@ -1,5 +1,0 @@
--- A side of a stretch has fewer pins.
-use Rattle.tree.proofs.building.+fill.Given as goal
-
-abbrev pub decreases-fill : goal.decreases-fill
-decreases-fill l = l.pins
