@@ -140,7 +140,7 @@ fn merge_by_width(values: &mut [u32], part: Part<'_>, radix: Radix, at: usize, r
     }
 }
 
-// The values of the layers from bit `at` on, which may be `layers`.
+// The values of the layers from bit `at` on, of which there may be `layers`.
 fn decode_layers(
     values: &mut [u32],
     part: Part<'_>,

@@ -1,4 +1,5 @@
-// Packing: the plan of an image, then the image where there is room for it.
+// Packing: the plan of an image, then the image where there is room for it. Values and the array to work in are borrowed; so that the values are
+// fewer than 2^16, and that there is room to work in, is asked by each function.
 ghost use Rattle.std.specs.Prelude.{◌≡◌, ◌+◌, ◌*◌, ◌^◌, ◌<◌, ◌≤◌, T, length};
 ghost use Rattle.tree.specs.Lists.{ordered};
 ghost use Rattle.strip.specs.Image.{planned, strip_of};

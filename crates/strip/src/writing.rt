@@ -1,5 +1,6 @@
 // The bytes of a strip, written piece by piece: header, entries, parts. The output and the array to work in are borrowed by each: a struct that
-// held them would have to promise at each step that they are still the same buffers.
+// held them would have to promise at each step that they are still the same buffers. So that the values are fewer than 2^16 is asked by
+// each, too.
 ghost use Rattle.std.specs.Prelude.{◌≡◌, ℕ, ◌+◌, ◌*◌, ◌^◌, ◌<◌, ◌≤◌, length, get_or};
 ghost use Rattle.codes.specs.Lists.{at_front, replaced};
 ghost use Rattle.tree.specs.Shape.{height};
