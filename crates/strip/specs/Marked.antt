@@ -186,8 +186,9 @@ all [] = true
 all (c ∷ cs) = passes c && all cs
 
 pub marked-pass : all marked ≡ true
-unfolding bits number sum fixed numbers padded kind_of rest layers kind_bits width_in widest best_chunked chosen fixed_at fetch_layers chunked_at fetched height
-    root_place child_of stretch_in stretch rank ordered time_of time_above stored stored_from fetched_at node_time_in node_time walk_in walk met toward last_of
-    access_answer remember target_from dropped legs_from opened positions first_lower test verdict end_after filled laid_out code_for part_for joined strip_of entries_tests opening pack_of pack_output
-    access_of search_of up_to_of sweep_of sweep_output times_from positions_tests list_in check_of plain_list unpack_of unpack_output repeat_from repeat_of step_of next_of
+unfolding bits number sum fixed numbers padded kind_of rest layers kind_bits width_in widest best_chunked chosen fixed_at fetch_layers chunked_at fetched
+    height root_place child_of stretch_in stretch rank ordered time_of time_above stored stored_from fetched_at node_time_in node_time walk_in walk met
+    toward last_of access_answer remember target_from dropped legs_from opened positions first_lower test verdict end_after filled laid_out code_for
+    part_for joined strip_of entries_tests opening pack_of pack_output access_of search_of up_to_of sweep_of sweep_output times_from positions_tests list_in
+    check_of plain_list unpack_of unpack_output repeat_from repeat_of step_of next_of
 marked-pass = refl

@@ -8,3 +8,6 @@ overflow_mul-levels c = omega (arith, height-least.least c.args.n 64 (omega arit
 
 pub overflow_add-levels : goal.overflow_add-levels
 overflow_add-levels c = omega (arith, height-least.least c.args.n 64 (omega arith))
+
+pub returns : goal.returns
+returns c = rw c.height.ensures
