@@ -124,7 +124,8 @@ impl Open<'_> {
         r: u32,
     ) -> Result<Option<usize>, Refusal>
         requires pins_value { (self.now.tree.levels.pins ≡ length times.old) × (self.now.tree.levels.pins ≡ length values.old) }
-        ensures { outcome result ≡ repeat_from (accesses self.now.tree.levels self.now.tree.bytes.now) r self.now.tree.levels.pins 0 }
+        ensures result_value { outcome result ≡ repeat_from (accesses self.now.tree.levels self.now.tree.bytes.now) r self.now.tree.levels.pins 0 }
+        ensures times_after { times.new ≡ filled_to self.now.tree.levels.pins (list_in self.now.tree.bytes.now self.now.tree.levels) }
     {
         match self.tree.list(times, values).listed {
             Ok(()) => gap_or(times, r, Ok(None)),

@@ -66,8 +66,8 @@
 //! | call | up to 1,023 pins | more |
 //! |---|---:|---:|
 //! | [`height`], [`root_place`], [`rank`] | 100 | 100 |
-//! | [`access`], [`search`], [`up_to`], [`step`](Walker::step) | 1,100 | 1,200 |
-//! | [`sweep`] | 26,200 | 26,300 |
+//! | [`access`], [`search`], [`up_to`], [`step`](Walker::step) | 1,000 | 1,000 |
+//! | [`sweep`] | 26,000 | 26,000 |
 //! | [`pack`] | 9,000 | 396,000 |
 //! | [`check`], [`unpack`], [`repeat`] | 15,000 | 534,000 |
 //!

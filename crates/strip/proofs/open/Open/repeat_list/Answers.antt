@@ -17,7 +17,7 @@ returns-in-Ok c =
     let outcome = sym (ap listed c.in-Ok.is) ∙ list.ensures.lists.outcome in
     let whole : list.new.times ≡ list_in s levels =
     list.ensures.times_after ∙ list-laws.filled_whole levels.pins (list_in s levels) (listing-finds.count _ levels.pins (sym outcome)) in
-    c.gap_or.ensures ∙ rw whole (repeat-listed s levels c.args.r _ outcome)
+    record { result_value = c.gap_or.ensures ∙ rw whole (repeat-listed s levels c.args.r _ outcome); times_after = list.ensures.times_after }
 
 pub returns-in-Err : goal.returns-in-Err
 unfolding list_in
@@ -27,4 +27,7 @@ returns-in-Err c =
     let list = c.list in
     let front = listed-front s levels (rw c.in-Err.is at list.ensures.lists) list.ensures.times_after in
     let outcome = sym (ap listed c.in-Err.is) ∙ list.ensures.lists.outcome in
-    c.gap_or-in-Err.ensures ∙ rw (front.is, c.from.ensures, walk-told c.in-Err.stop.refusal) (repeat-listed s levels c.args.r _ outcome)
+    record {
+      result_value = c.gap_or-in-Err.ensures ∙ rw (front.is, c.from.ensures, walk-told c.in-Err.stop.refusal) (repeat-listed s levels c.args.r _ outcome);
+      times_after = list.ensures.times_after;
+    }

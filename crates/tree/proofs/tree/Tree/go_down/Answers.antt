@@ -70,9 +70,9 @@ loop-node-preserved c =
     let tree = c.args.self.now in
     let w = c.loop-node.invariant.stands in
     let k : c.loop-node.node.v ≤ tree.levels.pins = c.loop-node-test.true in
-    let x = stands-time w c.open_node.ensures ∙ ap outcome c.in_ok-time.was in
+    let y = stands-time w c.open_node.ensures ∙ ap outcome c.in_ok-time.was in
     rw c.child-node-else-time-target.ensures (record {
-      comes = comes-left c.args.target c.loop-node.invariant.comes tree.fits k x c.if-time-target.false;
-      stands = rw (stretch-child tree.levels.pins false c.loop-node.node.v w.one) (stands-child w false _ k x);
+      comes = comes-left c.args.target c.loop-node.invariant.comes tree.fits k y c.if-time-target.false;
+      stands = rw (stretch-child tree.levels.pins false c.loop-node.node.v w.one) (stands-child w false _ k y);
       marks = c.open_node.ensures.marks;
     })
