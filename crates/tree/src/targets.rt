@@ -58,7 +58,7 @@ impl Progress {
 
 impl Tree<'_> {
     // Opens nodes: to the left child where a node's time is at or above the target, else to the right one, until no child. A later target goes
-    // mostly to the left, so a branch on the side is mostly predicted.
+    // mostly to the left, so a branch on the side is mostly predicted. A target that drops no node stands at a missing child: it opens none.
     pub(crate) fn go_down(
         &self,
         marks: &mut [Mark],
@@ -71,6 +71,9 @@ impl Tree<'_> {
         ensures level_marks_2 { LevelMarks self.now.levels.ends self.now.bytes.now marks.new }
     {
         let n = self.levels.pins;
+        if progress.v > n {
+            return Ok(());
+        }
         let mut count = progress.count;
         let mut opened = progress.opened;
         let mut node = Node {
