@@ -1,6 +1,5 @@
 -- Marks: one is counted on, one is kept, and those of no bits are marks of any part.
-use Rattle.std.proofs.Common.{◌≡◌, ℕ, ◌+◌, ◌-◌, ◌<◌, ◌≤◌, Bool, true, false, eqb, List, length, get_or, take, drop, set, refl, arith, length-set, get_or-set_other, get_or-set_same, eqb-true}
-use borrow.Author.Tests.{eqb-false}
+use Rattle.std.proofs.Common.{◌≡◌, ℕ, ◌+◌, ◌-◌, ◌<◌, ◌≤◌, List, length, get_or, take, drop, set, refl, arith, rules}
 use Rattle.codes.specs.declared.marking.Mark.{Mark}
 use Rattle.codes.specs.Bits.{sum, bits_of}
 use Rattle.codes.specs.Marks.{Counted, none, Marks}
@@ -21,11 +20,7 @@ counted-on bytes m to r c h e =
 
 -- one mark more that is true, in the place of mark k
 pub marks-kept : {bytes : List ℕ} {ms : List Mark} (k : ℕ) (m : Mark) → Marks bytes ms → k < length ms → Counted (bits_of bytes) m → Marks bytes (set ms k m)
-marks-kept {bytes} {ms} k m old h t = record { counted = λ j l. go j (eqb j k) refl (rw (length-set ms k m) at l) }
-  where
-    go : (j : ℕ) (same : Bool) → eqb j k ≡ same → j < length ms → Counted (bits_of bytes) (get_or (set ms k m) j none)
-    go j true e l = rw (eqb-true j k e, get_or-set_same ms k m none h) t
-    go j false e l = rw (get_or-set_other ms k j m none (eqb-false j k e)) (old.counted j l)
+marks-kept k m old h t = record { counted = λ j l. search rules }
 
 pub marks-none : (bytes : List ℕ) (ms : List Mark) → ((k : ℕ) → get_or ms k none ≡ none) → Marks bytes ms
 unfolding sum

@@ -58,7 +58,7 @@ impl Progress {
 
 impl Tree<'_> {
     // Opens nodes: to the left child where a node's time is at or above the target, else to the right one, until no child. A later target goes
-    // mostly to the left, so a branch on the side is mostly predicted. A target that drops no node stands at a missing child: it opens none.
+    // mostly to the left, so a branch on the side is mostly predicted. A later target that drops none is at a missing child, and opens none.
     pub(crate) fn go_down(
         &self,
         marks: &mut [Mark],
